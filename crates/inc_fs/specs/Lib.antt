@@ -1,0 +1,14 @@
+pub mod Lists
+pub mod Paths
+pub mod Lookups
+pub mod Drawn
+pub mod State
+pub mod Step
+pub mod Kinds
+pub mod Points
+pub mod Readings
+pub mod Locks
+pub mod Tidy
+pub mod Changes
+pub mod Steps
+pub mod Ending

@@ -1,0 +1,4 @@
+pub mod Events
+pub mod Leads
+pub mod Growth
+pub mod GrowthLaws

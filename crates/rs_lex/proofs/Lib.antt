@@ -1,0 +1,6 @@
+pub mod Fronts
+pub mod Forms
+pub mod Found
+pub mod PlaceSteps
+pub mod Measured
+pub mod Texts

@@ -1,0 +1,6 @@
+pub mod Places
+pub mod Pieces
+pub mod Scan
+pub mod Tokens
+pub mod Steps
+pub mod Faults

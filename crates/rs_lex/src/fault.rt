@@ -1,0 +1,20 @@
+use inc_base::Memory;
+use rs_tree::At;
+use thiserror::Error;
+
+/// Why a text has no tokens.
+#[derive(Clone, Copy, Debug, PartialEq, Eq, Error)]
+pub enum LexFault {
+    /// The place of the first byte at which no token, separator or comment begins.
+    #[error("unexpected byte")]
+    At(At),
+    /// The tokens find no memory, or the text is too long for a list.
+    #[error("out of memory")]
+    Memory,
+}
+
+impl From<Memory> for LexFault {
+    fn from(_refused: Memory) -> LexFault {
+        LexFault::Memory
+    }
+}

@@ -1,0 +1,4 @@
+pub mod Literal
+pub mod LiteralLaws
+pub mod Object
+pub mod ObjectLaws

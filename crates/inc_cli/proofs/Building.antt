@@ -1,0 +1,55 @@
+-- A build is its words, its text and its session.
+use Rattle.std.proofs.Common.{◌≡◌, ◌⊎◌, inl, inr, ℕ, [], ◌∷◌, ◌++◌, Some, None, refl, subst, sym}
+use Rattle.std.specs.Prelude.{Option, List, IfSome}
+use Rattle.inc_base.specs.declared.job.Job.{Job}
+use Rattle.inc_proto.specs.declared.event.Event.{Event}
+use Rattle.inc_proto.specs.declared.event.Event.TheVariants.{Begin, Left}
+use Rattle.inc_proto.specs.Events.{Steps, did, own_steps}
+use Rattle.inc_proto.specs.Growth.{TellsBy}
+use Rattle.inc_proto.specs.GrowthLaws.{steps_of_whole}
+use Rattle.inc_session.specs.Order.{Plan}
+use Rattle.inc_session.specs.Machine.{plan_of}
+use Rattle.inc_session.specs.PublishedLaws.{whole_publishes}
+use Rattle.rs_literal.specs.Object.{literal_image}
+use Rattle.inc_cli.specs.declared.status.Status.{Status}
+use Rattle.inc_cli.specs.declared.status.Status.TheVariants.{Done, BadWords, DirectoryFault, SinkFault, SourceFault, OutOfMemory, Disturbed, NotBuilt}
+use Rattle.inc_cli.specs.Words.{BuildsCrate}
+use Rattle.inc_cli.specs.Run.{Inputs, IsJobOf, HasVisited, Visit, HasPublished, Refuses}
+use Rattle.inc_cli.specs.Parts.{IsText, Visited, HasSession, FailsSession}
+
+told_steps : (own : ℕ) (job : Job) (steps : Steps) (old new : Option (List Event)) → TellsBy own old new (Left own None 0 ∷ (did own steps ++ Begin own job ∷ []))
+    → IfSome new (λ history. own_steps own history ≡ steps)
+told_steps own job steps None new told = subst (λ new. IfSome new (λ history. own_steps own history ≡ steps)) (sym told) tt
+told_steps own job steps (Some old) None told = tt
+told_steps own job steps (Some old) (Some new) told = steps_of_whole own job steps old new told
+
+module _ (words : List (List ℕ)) (job : Job) (number own : ℕ) (old new : Inputs)
+    (builds : BuildsCrate words job.krate) (version : job.compiler.version ≡ 1) (level : job.compiler.level ≡ 1) (text : IsText job.text number old.left new.left) where
+  visit_of : (IsEnd : Plan → Steps → Type 0) → Visited IsEnd job number own old.told new.told → Visit IsEnd words old.left own old.told new.told
+  visit_of IsEnd visited = record {
+    job = job;
+    number = number;
+    steps = visited.steps;
+    of_job = record { builds = builds; version = version; level = level; text = text.whole; literal = text.literal };
+    visited = visited.visited;
+    ends = visited.ends;
+    told = told_steps own job visited.steps old.told new.told visited.visited.told;
+  }
+
+  -- a session of the job that published is a build that did
+  pub has_published : (image : List ℕ) → HasSession job number own image old.told new.told old.meter new.meter
+      → (published : HasPublished words own old new) × (image ≡ literal_image published.visit.number)
+  unfolding visit_of
+  has_published image session = (record { visit = visit_of _ session.visit; read = text.read; meter = session.meter; alone = λ history G before after leads. whole_publishes own job (plan_of job number) session.visit.ends.found session.visit.ends.closed history G leads }, session.image_is)
+
+  -- and one that didn't is refused for its cause
+  pub is_refused : (status : Status) → FailsSession status job number own old.told new.told old.dir_faults new.dir_faults → Refuses status words own old new
+  is_refused DirectoryFault (visited, rose) = record { visit = visit_of _ visited; read = text.read; faults = rose }
+  is_refused Disturbed visited = record { visit = visit_of _ visited; read = text.read }
+  is_refused OutOfMemory (inl others) = record { visit = inl others }
+  is_refused OutOfMemory (inr visited) = record { visit = inr (visit_of _ visited) }
+  is_refused Done cause = absurd cause
+  is_refused BadWords cause = absurd cause
+  is_refused SinkFault cause = absurd cause
+  is_refused SourceFault cause = absurd cause
+  is_refused NotBuilt cause = absurd cause

@@ -1,0 +1,12 @@
+use Rattle.std.proofs.Common.{refl}
+use Rattle.std.proofs.lemmas.Result.{IfOk-weaker, IfErr-weaker}
+use Rattle.inc_cli.proofs.Building.{has_published, is_refused}
+use Rattle.inc_cli.proofs.build.build.Goals as goal
+
+pub returns-clause-ok : goal.returns-clause-ok
+returns-clause-ok g c =
+    IfOk-weaker c.publish.result _ _ (λ image session. has_published _ _ _ _ _ _ c.in-Ok.ensures.ok refl refl c.in-Ok-text_of.ensures.ok image session) c.publish.ensures.ok
+
+pub returns-clause-err : goal.returns-clause-err
+returns-clause-err g c =
+    IfErr-weaker c.publish.result _ _ (λ status cause. is_refused _ _ _ _ _ _ c.in-Ok.ensures.ok refl refl c.in-Ok-text_of.ensures.ok status cause) c.publish.ensures.err

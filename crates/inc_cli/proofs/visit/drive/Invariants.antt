@@ -1,0 +1,15 @@
+use Rattle.std.proofs.Common.{◌≡◌, true}
+use Rattle.inc_session.specs.Machine.{left_of}
+use Rattle.inc_cli.proofs.Driving.{Driving}
+use Rattle.inc_cli.proofs.visit.drive.Given as goal
+
+abbrev pub invariant-steps : goal.invariant-steps
+invariant-steps g l = record {
+  runs : g.D.Dir.runs l.dir ≡ true;
+  number : g.D.Dir.number l.dir ≡ g.D.Dir.number l.initial.dir;
+  driving : Driving (g.D.Dir.number l.initial.dir) l.initial.session l.session (g.D.Dir.told l.initial.dir) (g.D.Dir.told l.dir)
+      (g.D.Dir.faults l.initial.dir) (g.D.Dir.faults l.dir) l.initial.meter l.meter;
+}
+
+abbrev pub decreases-steps : goal.decreases-steps
+decreases-steps g l = left_of l.session.op l.session.stage

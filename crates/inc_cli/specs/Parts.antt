@@ -1,0 +1,70 @@
+-- The parts of a build, and how each of them is refused.
+use Rattle.std.specs.Prelude.{◌≡◌, ◌⊎◌, ℕ, List, [], Option, Some, None, IfSome}
+use Rattle.std.specs.Io.KnownBytes.{IsAtEnd}
+use Rattle.inc_base.specs.Meters.{ticked}
+use Rattle.inc_base.specs.Outside.{Rose}
+use Rattle.inc_base.specs.declared.job.Job.{Job}
+use Rattle.inc_proto.specs.declared.event.Event.{Event}
+use Rattle.inc_proto.specs.Events.{Steps}
+use Rattle.inc_proto.specs.Growth.{TellsOn}
+use Rattle.inc_session.specs.declared.outcome.Outcome.{Outcome}
+use Rattle.inc_session.specs.declared.outcome.Outcome.TheVariants.{Built, DiskFault, Disturbed as DisturbedBy}
+use Rattle.inc_session.specs.Order.{Plan, IsWholePath, IsCutByFault, IsPathSoFar}
+use Rattle.inc_session.specs.Machine.{plan_of}
+use Rattle.rs_literal.specs.Literal.{IsLiteral}
+use Rattle.rs_literal.specs.Object.{literal_image}
+use Rattle.inc_cli.specs.declared.status.Status.{Status}
+use Rattle.inc_cli.specs.declared.status.Status.TheVariants.{BadWords, DirectoryFault, SourceFault, OutOfMemory, Disturbed, NotBuilt}
+use Rattle.inc_cli.specs.Words.{AreRefused}
+use Rattle.inc_cli.specs.Run.{HasVisited, IsDisturbed}
+
+-- why the words give no crate
+abbrev pub FailsWords : Status → List (List ℕ) → Type 0
+FailsWords BadWords words = AreRefused words
+FailsWords OutOfMemory words = Unit {0}
+FailsWords status words = ⊥
+
+-- these bytes are all that the source had left, and print the number
+pub record IsText (text : List ℕ) (number : ℕ) (old new : Option (List ℕ)) : Type 0 where
+  pub whole : IfSome old (λ left. text ≡ left)
+  pub read : IsAtEnd new
+  pub literal : IsLiteral text number
+
+-- why the source gives no text
+abbrev pub FailsText : Status → Option (List ℕ) → ℕ → ℕ → Type 0
+FailsText SourceFault left before now = Rose before now
+FailsText NotBuilt left before now = IfSome left (λ text. (number : ℕ) → ¬ IsLiteral text number)
+FailsText OutOfMemory left before now = Unit {0}
+FailsText status left before now = ⊥
+
+-- a session of this job visited the directory, and its steps are as the statement has it
+pub record Visited (IsEnd : Plan → Steps → Type 0) (job : Job) (number own : ℕ) (old new : Option (List Event)) : Type 0 where
+  pub steps : Steps
+  pub visited : HasVisited own job steps old new
+  pub ends : IsEnd (plan_of job number) steps
+
+-- it published, with its one unit emitted
+pub record HasSession (job : Job) (number own : ℕ) (image : List ℕ) (old new : Option (List Event)) (before now : ℕ) : Type 0 where
+  pub visit : Visited IsWholePath job number own old new
+  pub image_is : image ≡ literal_image number
+  pub meter : now ≡ ticked before
+
+-- why it published nothing
+abbrev pub FailsSession : Status → Job → ℕ → ℕ → Option (List Event) → Option (List Event) → ℕ → ℕ → Type 0
+FailsSession DirectoryFault job number own old new before now = Visited IsCutByFault job number own old new × Rose before now
+FailsSession Disturbed job number own old new before now = Visited IsDisturbed job number own old new
+FailsSession OutOfMemory job number own old new before now =
+    ((other : ℕ) × TellsOn other old new []) ⊎ Visited IsPathSoFar job number own old new
+FailsSession status job number own old new before now = ⊥
+
+-- the outcome is this image, of one unit emitted of one
+abbrev pub HasOutcome : Option Outcome → List ℕ → Type 0
+HasOutcome (Some (Built made emitted units)) image = image ≡ made
+HasOutcome outcome image = ⊥
+
+-- the outcome is the status's cause
+abbrev pub FailsOutcome : Option Outcome → Status → Type 0
+FailsOutcome (Some DiskFault) DirectoryFault = Unit {0}
+FailsOutcome (Some (DisturbedBy asked reply)) Disturbed = Unit {0}
+FailsOutcome None OutOfMemory = Unit {0}
+FailsOutcome outcome status = ⊥

@@ -1,0 +1,114 @@
+ghost use Rattle.std.specs.Prelude.{◌≡◌, ◌<◌, ◌≤◌, ◌^◌, ℕ, false, map, IfOk, IfErr, OnOk, OnErr};
+ghost use Rattle.inc_base.specs.Outside.{KeepsTelling};
+ghost use Rattle.rs_literal.specs.Object.{literal_image};
+ghost use Rattle.inc_session.specs.Machine.{HasMade};
+ghost use Rattle.inc_cli.specs.Run.{HasPublished, Refuses};
+ghost use Rattle.inc_cli.specs.Parts.{IsText, FailsText, HasSession, FailsSession, HasOutcome, FailsOutcome};
+
+use crate::status::Status;
+use crate::visit::visit;
+use crate::words::crate_word;
+use inc_base::{Bytes, Compiler, Job, Meter, ReadFault, Source, VERSION, read_to};
+use inc_dir::Dir;
+use inc_session::{Outcome, Session};
+use rs_literal::{TEXT_LIMIT, literal_of};
+use std::alloc::Global;
+
+/// A text and the number that it prints.
+#[derive(Drop)]
+pub(crate) struct Text {
+    bytes: Bytes,
+    number: u64,
+}
+
+/// Reads the source to its end, or to one byte past the limit on texts.
+fn text_of<S: Source>(alloc: Global, src: &mut S) -> Result<Text, Status>
+    ensures ok { IfOk result (λ text. IsText text.bytes text.number (S.left src.old) (S.left src.new)) }
+    ensures small { IfOk result (λ text. text.number < 2 ^ 63) }
+    ensures err { IfErr result (λ status. FailsText status (S.left src.old) (S.faults src.old) (S.faults src.new)) }
+{
+    let bytes = match read_to(alloc, src, TEXT_LIMIT) {
+        Ok(bytes) => bytes,
+        Err(ReadFault::Source) => return Err(Status::SourceFault),
+        Err(ReadFault::Memory) => return Err(Status::OutOfMemory),
+    };
+    match literal_of(bytes.as_slice()) {
+        Some(number) => Ok(Text { bytes, number }),
+        None => Err(Status::NotBuilt),
+    }
+}
+
+/// The image that a session ended with.
+fn image_of(session: Session) -> Result<Bytes, Status>
+    ensures ok { IfOk result (HasOutcome session.outcome) }
+    ensures err { IfErr result (FailsOutcome session.outcome) }
+{
+    match session.into_outcome() {
+        Some(Outcome::Built { image, .. }) => Ok(image),
+        Some(Outcome::DiskFault) => Err(Status::DirectoryFault),
+        Some(Outcome::Disturbed(_, _)) => Err(Status::Disturbed),
+        None => Err(Status::OutOfMemory),
+    }
+}
+
+/// Lets a session of this job visit the directory, and gives the image of its text.
+fn publish<D: Dir>(
+    alloc: Global,
+    job: Job,
+    number: u64,
+    dir: &mut D,
+    meter: &mut Meter,
+) -> Result<Bytes, Status>
+    requires free { D.runs dir.old ≡ false }
+    requires small { number < 2 ^ 63 }
+    ensures free { D.runs dir.new ≡ false }
+    ensures ok { IfOk result (λ image. HasSession job number (D.number dir.new) image (D.told dir.old) (D.told dir.new) meter.old meter.new) }
+    ensures err { IfErr result (λ status. FailsSession status job number (D.number dir.new) (D.told dir.old) (D.told dir.new) (D.faults dir.old) (D.faults dir.new)) }
+{
+    let Ok(session) = Session::new(alloc, &job, number) else {
+        return Err(Status::OutOfMemory);
+    };
+    let mut session = session;
+    match visit(dir, &mut session, job, meter) {
+        Ok(()) => image_of(session),
+        Err(_) => Err(Status::OutOfMemory),
+    }
+}
+
+/// Builds what the words and the source ask for, and gives its image.
+pub(crate) fn build<S: Source, D: Dir>(
+    alloc: Global,
+    words: &[&str],
+    src: &mut S,
+    dir: &mut D,
+    meter: &mut Meter,
+) -> Result<Bytes, Status>
+    requires { D.runs dir.old ≡ false }
+    ensures free { D.runs dir.new ≡ false }
+    ensures ok { IfOk result (λ image. (published : HasPublished (map (λ word. word.now) words.now) (D.number dir.new)
+        (record { left = S.left src.old; source_faults = S.faults src.old; told = D.told dir.old; dir_faults = D.faults dir.old; meter = meter.old })
+        (record { left = S.left src.new; source_faults = S.faults src.new; told = D.told dir.new; dir_faults = D.faults dir.new; meter = meter.new }))
+        × (image ≡ literal_image published.visit.number)) }
+    ensures err { IfErr result (λ status. Refuses status (map (λ word. word.now) words.now) (D.number dir.new)
+        (record { left = S.left src.old; source_faults = S.faults src.old; told = D.told dir.old; dir_faults = D.faults dir.old; meter = meter.old })
+        (record { left = S.left src.new; source_faults = S.faults src.new; told = D.told dir.new; dir_faults = D.faults dir.new; meter = meter.new })) }
+{
+    let krate = match crate_word(alloc, words) {
+        Ok(krate) => krate,
+        Err(status) => return Err(status),
+    };
+    let Text { bytes, number } = match text_of(alloc, src) {
+        Ok(text) => text,
+        Err(status) => return Err(status),
+    };
+    let compiler = Compiler {
+        version: VERSION,
+        level: 1,
+    };
+    let job = Job {
+        krate,
+        compiler,
+        text: bytes,
+    };
+    publish(alloc, job, number, dir, meter)
+}

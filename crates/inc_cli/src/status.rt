@@ -1,0 +1,57 @@
+ghost use Rattle.std.specs.Prelude.{◌≡◌};
+ghost use Rattle.inc_cli.specs.Statuses.{code_of, line_of};
+
+/// How a top call ends (docs/ARCHITECTURE.md, "Statuses").
+#[derive(Clone, Copy, Debug, PartialEq, Eq)]
+pub enum Status {
+    /// 0: done.
+    Done,
+    /// 2: the words aren't accepted.
+    BadWords,
+    /// 3: the directory failed before the session was published.
+    DirectoryFault,
+    /// 4: a sink failed.
+    SinkFault,
+    /// 5: the source failed.
+    SourceFault,
+    /// 6: there is no memory.
+    OutOfMemory,
+    /// 9: the directory disagrees with the session's own steps.
+    Disturbed,
+    /// 10: the text isn't of the form that is accepted today.
+    NotBuilt,
+}
+
+impl Status {
+    /// The status of the process.
+    pub fn code(self) -> u8
+        ensures { result ≡ code_of self }
+    {
+        match self {
+            Status::Done => 0,
+            Status::BadWords => 2,
+            Status::DirectoryFault => 3,
+            Status::SinkFault => 4,
+            Status::SourceFault => 5,
+            Status::OutOfMemory => 6,
+            Status::Disturbed => 9,
+            Status::NotBuilt => 10,
+        }
+    }
+
+    /// What is written to `out` where it is a refusal, and else nothing.
+    pub fn line(self) -> &'static [u8]
+        ensures { result.now ≡ line_of self }
+    {
+        match self {
+            Status::Done => b"",
+            Status::BadWords => b"incc: bad words\n",
+            Status::DirectoryFault => b"incc: directory fault\n",
+            Status::SinkFault => b"",
+            Status::SourceFault => b"incc: source fault\n",
+            Status::OutOfMemory => b"incc: out of memory\n",
+            Status::Disturbed => b"incc: directory disturbed\n",
+            Status::NotBuilt => b"incc: not built yet\n",
+        }
+    }
+}

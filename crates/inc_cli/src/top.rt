@@ -1,0 +1,53 @@
+ghost use Rattle.std.specs.Prelude.{◌≡◌, false, map};
+ghost use Rattle.inc_cli.specs.declared.status.Status.{Status};
+ghost use Rattle.inc_cli.specs.Statuses.{code_of};
+ghost use Rattle.inc_cli.specs.Run.{Ends};
+
+use crate::build::build;
+use crate::output::{deliver, emitted_line, refuse};
+use crate::status::Status;
+use inc_base::{Failed, Memory, Meter, Sink, Source};
+use inc_dir::Dir;
+use std::alloc::Global;
+
+/// Runs the command of these words: today `build --crate NAME --root DIR --src FILE --image FILE`.
+///
+/// It reads the text from the source, lets a session of its own visit the directory, and writes the line on
+/// the emitted units to `out` and the image to `image`. It answers the status of the process
+/// (docs/ARCHITECTURE.md, "Statuses"), and whichever that is, no session of its own runs at its exit. The
+/// order of the refusals is that of the words, the source, the text, the session, `out` and `image`; want of
+/// memory may come at any of them. It waits for nobody and returns.
+pub fn run<S: Source, D: Dir, O: Sink, I: Sink>(
+    alloc: Global,
+    words: &[&str],
+    src: &mut S,
+    dir: &mut D,
+    out: &mut O,
+    image: &mut I,
+    meter: &mut Meter,
+) -> u8
+    requires { D.runs dir.old ≡ false }
+    ensures free { D.runs dir.new ≡ false }
+
+    // It ends by a status, and what holds then is that status's case of `Ends`.
+    ensures ends { (status : Status) × (result ≡ code_of status) × Ends status (map (λ word. word.now) words.now) (D.number dir.new)
+        (record { left = S.left src.old; source_faults = S.faults src.old; told = D.told dir.old; dir_faults = D.faults dir.old; meter = meter.old })
+        (record { left = S.left src.new; source_faults = S.faults src.new; told = D.told dir.new; dir_faults = D.faults dir.new; meter = meter.new })
+        (record { out = O.held out.old; out_faults = O.faults out.old; image = I.held image.old; image_faults = I.faults image.old })
+        (record { out = O.held out.new; out_faults = O.faults out.new; image = I.held image.new; image_faults = I.faults image.new }) }
+{
+    let Ok(line) = emitted_line(alloc, 1, 1) else {
+        refuse(Status::OutOfMemory, out);
+        return Status::OutOfMemory.code();
+    };
+    match build(alloc, words, src, dir, meter) {
+        Ok(bytes) => match deliver(line.as_slice(), bytes.as_slice(), out, image) {
+            Ok(()) => Status::Done.code(),
+            Err(Failed) => Status::SinkFault.code(),
+        },
+        Err(status) => {
+            refuse(status, out);
+            status.code()
+        }
+    }
+}

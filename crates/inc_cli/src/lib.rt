@@ -9,8 +9,6 @@
 mod build;
 mod output;
 mod status;
-#[cfg(test)]
-mod tests;
 mod top;
 mod visit;
 mod words;

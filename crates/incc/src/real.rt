@@ -3,8 +3,6 @@ ghost use Rattle.std.specs.Prelude.{◌≡◌, ℕ, List, Option, None, false, I
 mod draws;
 mod folder;
 mod handles;
-#[cfg(test)]
-mod tests;
 mod trouble;
 
 use folder::Folder;

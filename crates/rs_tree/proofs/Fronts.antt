@@ -1,29 +1,21 @@
 -- Forms are seen from the bytes that they begin.
-use Rattle.std.proofs.Common.{◌≡◌, ℕ, ◌+◌, ◌^◌, ◌<◌, ◌≤◌, Bool, true, false, List, [], ◌∷◌, ◌++◌, length, refl, sym, ap, ◌∙◌, arith, append_assoc, append-nil}
+use Rattle.std.proofs.Common.{◌≡◌, ℕ, ◌^◌, ◌<◌, Bool, true, false, List, [], ◌∷◌, ◌++◌, length, refl, sym, ap, ◌∙◌, arith, append_assoc}
 use Rattle.std.specs.List.{flat_map}
 use Rattle.inc_wire.specs.Forms.{list_form, number_form, text_form}
 use Rattle.inc_wire.specs.FormLaws.{same_number_front, same_text_front}
-use Rattle.rs_tree.specs.declared.place.At.{At}
 use Rattle.rs_tree.specs.declared.token.Token.{Token}
 use Rattle.rs_tree.specs.declared.tree.Typ.{Typ}
 use Rattle.rs_tree.specs.declared.tree.Typ.TheVariants as t
 use Rattle.rs_tree.specs.declared.index.Index.{Index}
 use Rattle.rs_tree.specs.declared.index.IndexItem.{IndexItem}
 use Rattle.rs_tree.specs.declared.index.Sig.{Sig}
-use Rattle.rs_tree.specs.Fits.{Each, FitsIndex, FitsIndexItem, FitsList, FitsSig, FitsText, FitsToken}
-use Rattle.rs_tree.specs.Forms.{flag_form, flag_of, index_form, index_item_form, sig_form, token_form, typ_code, typ_form}
+use Rattle.rs_tree.specs.Readings.{IsSeen}
+use Rattle.rs_tree.specs.Fits.{Always, Each, FitsIndex, FitsIndexItem, FitsList, FitsSig, FitsText, FitsToken}
+use Rattle.rs_tree.specs.Forms.{flag_form, index_form, index_item_form, sig_form, token_form, typ_code, typ_form}
 
--- a value and what follows it are seen from the bytes
-pub record IsSeen {X : Type 0} (x y : X) (r s : List ℕ) : Type 0 where
-  pub value : x ≡ y
-  pub rest : r ≡ s
-
+-- a value that fits, and what follows it, are seen from the bytes that its form begins
 pub record HasFronts {X : Type 0} (P : X → Type 0) (form : X → List ℕ) : Type 0 where
   pub seen : (x y : X) (r s : List ℕ) → P x → P y → form x ++ r ≡ form y ++ s → IsSeen x y r s
-
--- the parts of a form, one after the other
-two_parts : (a b r : List ℕ) → (a ++ b) ++ r ≡ a ++ (b ++ r)
-two_parts a b r = append_assoc a b r
 
 pub flag_seen : (x y : Bool) (r s : List ℕ) → flag_form x ++ r ≡ flag_form y ++ s → IsSeen x y r s
 flag_seen true true r s same = record { value = refl; rest = (same_number_front 1 1 1 r s (omega arith) (omega arith) same).1 }
@@ -47,10 +39,6 @@ typ_small t.Unit = omega arith
 typ_small t.Int = omega arith
 typ_small t.Bool = omega arith
 
--- any value of a type without a range
-abbrev pub Always : {X : Type 0} → X → Type 0
-Always x = Unit {0}
-
 pub typ_seen : (x y : Typ) (r s : List ℕ) → typ_form x ++ r ≡ typ_form y ++ s → IsSeen x y r s
 typ_seen x y r s same =
     let codes = same_number_front 1 (typ_code x) (typ_code y) r s (typ_small x) (typ_small y) same in
@@ -64,7 +52,7 @@ text_fronts = record {
 token : ℕ → ℕ → List ℕ → Token
 token line column text = record { at = record { line = line; column = column }; text = text }
 
-token_parts : (x : Token) (r : List ℕ) → token_form x ++ r ≡ number_form 4 x.at.line ++ (number_form 4 x.at.column ++ (text_form x.text ++ r))
+pub token_parts : (x : Token) (r : List ℕ) → token_form x ++ r ≡ number_form 4 x.at.line ++ (number_form 4 x.at.column ++ (text_form x.text ++ r))
 token_parts x r =
     append_assoc (number_form 4 x.at.line) (number_form 4 x.at.column ++ text_form x.text) r
     ∙ ap (λ later. number_form 4 x.at.line ++ later) (append_assoc (number_form 4 x.at.column) (text_form x.text) r)
@@ -87,7 +75,7 @@ token_fronts = record { seen = token_seen }
 index_item : List ℕ → List ℕ → ℕ → Bool → IndexItem
 index_item at name kind public = record { «module» = at; name = name; kind = kind; public = public }
 
-index_item_parts : (x : IndexItem) (r : List ℕ) → index_item_form x ++ r ≡ text_form x.module ++ (text_form x.name ++ (number_form 1 x.kind ++ (flag_form x.public ++ r)))
+pub index_item_parts : (x : IndexItem) (r : List ℕ) → index_item_form x ++ r ≡ text_form x.module ++ (text_form x.name ++ (number_form 1 x.kind ++ (flag_form x.public ++ r)))
 index_item_parts x r =
     append_assoc (text_form x.module) (text_form x.name ++ (number_form 1 x.kind ++ flag_form x.public)) r
     ∙ ap (λ later. text_form x.module ++ later) (append_assoc (text_form x.name) (number_form 1 x.kind ++ flag_form x.public) r
@@ -129,7 +117,7 @@ list_seen P form fronts xs ys r s fx fy same =
     let counts = same_number_front 4 (length xs) (length ys) (flat_map form xs ++ r) (flat_map form ys ++ s) fx.few fy.few (sym (append_assoc (number_form 4 (length xs)) (flat_map form xs) r) ∙ same ∙ append_assoc (number_form 4 (length ys)) (flat_map form ys) s) in
     each_seen P form fronts xs ys r s counts.0 fx.each fy.each counts.1
 
-always_each : {X : Type 0} (xs : List X) → Each Always xs
+pub always_each : {X : Type 0} (xs : List X) → Each Always xs
 always_each [] = tt
 always_each (x ∷ xs) = (tt, always_each xs)
 
@@ -141,19 +129,29 @@ index modules items = record { modules = modules; items = items }
 same_index : (m n : List (List ℕ)) (a b : List IndexItem) → m ≡ n → a ≡ b → index m a ≡ index n b
 same_index m n a b e f = cc
 
-pub list_end : (a b : List ℕ) → a ≡ b → a ++ [] ≡ b ++ []
-list_end a b same = ap (λ bytes. bytes ++ []) same
+-- values are seen from their forms
+pub injective_of : {X : Type 0} (P : X → Type 0) (form : X → List ℕ) → HasFronts P form → (x y : X) → P x → P y → form x ≡ form y → x ≡ y
+injective_of P form fronts x y fx fy same = (fronts.seen x y [] [] fx fy (ap (λ bytes. bytes ++ []) same)).value
 
-pub index_injective : (x y : Index) → FitsIndex x → FitsIndex y → index_form x ≡ index_form y → x ≡ y
+pub index_parts : (x : Index) (r : List ℕ) → index_form x ++ r ≡ number_form 1 1 ++ (list_form text_form x.modules ++ (list_form index_item_form x.items ++ r))
+index_parts x r =
+    append_assoc (number_form 1 1) (list_form text_form x.modules ++ list_form index_item_form x.items) r
+    ∙ ap (λ later. number_form 1 1 ++ later) (append_assoc (list_form text_form x.modules) (list_form index_item_form x.items) r)
+
+index_seen : (x y : Index) (r s : List ℕ) → FitsIndex x → FitsIndex y → index_form x ++ r ≡ index_form y ++ s → IsSeen x y r s
 unfolding index
-index_injective x y fx fy same =
-    let mark = same_number_front 1 1 1 (list_form text_form x.modules ++ list_form index_item_form x.items) (list_form text_form y.modules ++ list_form index_item_form y.items) (omega arith) (omega arith) same in
-    let modules = list_seen FitsText text_form text_fronts x.modules y.modules (list_form index_item_form x.items) (list_form index_item_form y.items) fx.modules fy.modules mark.1 in
-    let items = list_seen FitsIndexItem index_item_form index_item_fronts x.items y.items [] [] fx.items fy.items (list_end (list_form index_item_form x.items) (list_form index_item_form y.items) modules.rest) in
-    same_index x.modules y.modules x.items y.items modules.value items.value
+index_seen x y r s fx fy same =
+    let whole = sym (index_parts x r) ∙ same ∙ index_parts y s in
+    let mark = same_number_front 1 1 1 (list_form text_form x.modules ++ (list_form index_item_form x.items ++ r)) (list_form text_form y.modules ++ (list_form index_item_form y.items ++ s)) (omega arith) (omega arith) whole in
+    let modules = list_seen FitsText text_form text_fronts x.modules y.modules (list_form index_item_form x.items ++ r) (list_form index_item_form y.items ++ s) fx.modules fy.modules mark.1 in
+    let items = list_seen FitsIndexItem index_item_form index_item_fronts x.items y.items r s fx.items fy.items modules.rest in
+    record { value = same_index x.modules y.modules x.items y.items modules.value items.value; rest = items.rest }
 
-pub tokens_injective : (x y : List Token) → FitsList FitsToken x → FitsList FitsToken y → list_form token_form x ≡ list_form token_form y → x ≡ y
-tokens_injective x y fx fy same = (list_seen FitsToken token_form token_fronts x y [] [] fx fy (list_end (list_form token_form x) (list_form token_form y) same)).value
+pub index_fronts : HasFronts FitsIndex index_form
+index_fronts = record { seen = index_seen }
+
+pub tokens_fronts : HasFronts (FitsList FitsToken) (list_form token_form)
+tokens_fronts = record { seen = list_seen FitsToken token_form token_fronts }
 
 sig : ℕ → Bool → List Typ → Typ → Sig
 sig kind public params gives = record { kind = kind; public = public; params = params; gives = gives }
@@ -161,11 +159,25 @@ sig kind public params gives = record { kind = kind; public = public; params = p
 same_sig : (k l : ℕ) (p q : Bool) (a b : List Typ) (g h : Typ) → k ≡ l → p ≡ q → a ≡ b → g ≡ h → sig k p a g ≡ sig l q b h
 same_sig k l p q a b g h e f i j = cc
 
-pub sig_injective : (x y : Sig) → FitsSig x → FitsSig y → sig_form x ≡ sig_form y → x ≡ y
+pub sig_parts : (x : Sig) (r : List ℕ) → sig_form x ++ r ≡ number_form 1 x.kind ++ (flag_form x.public ++ (list_form typ_form x.params ++ (typ_form x.gives ++ r)))
+sig_parts x r =
+    append_assoc (number_form 1 x.kind) (flag_form x.public ++ (list_form typ_form x.params ++ typ_form x.gives)) r
+    ∙ ap (λ later. number_form 1 x.kind ++ later) (append_assoc (flag_form x.public) (list_form typ_form x.params ++ typ_form x.gives) r
+    ∙ ap (λ later. flag_form x.public ++ later) (append_assoc (list_form typ_form x.params) (typ_form x.gives) r))
+
+-- any list that is short enough is one of types
+pub typs_fit : (params : List Typ) → length params < 2 ^ 32 → FitsList Always params
+typs_fit params few = record { few = few; each = always_each params }
+
+sig_seen : (x y : Sig) (r s : List ℕ) → FitsSig x → FitsSig y → sig_form x ++ r ≡ sig_form y ++ s → IsSeen x y r s
 unfolding sig
-sig_injective x y fx fy same =
-    let kinds = same_number_front 1 x.kind y.kind (flag_form x.public ++ (list_form typ_form x.params ++ typ_form x.gives)) (flag_form y.public ++ (list_form typ_form y.params ++ typ_form y.gives)) (omega (arith, fx.kind)) (omega (arith, fy.kind)) same in
-    let flags = flag_seen x.public y.public (list_form typ_form x.params ++ typ_form x.gives) (list_form typ_form y.params ++ typ_form y.gives) kinds.1 in
-    let params = list_seen (Always {X = Typ}) typ_form typ_fronts x.params y.params (typ_form x.gives) (typ_form y.gives) (record { few = fx.params; each = always_each x.params }) (record { few = fy.params; each = always_each y.params }) flags.rest in
-    let gives = typ_seen x.gives y.gives [] [] (list_end (typ_form x.gives) (typ_form y.gives) params.rest) in
-    same_sig x.kind y.kind x.public y.public x.params y.params x.gives y.gives kinds.0 flags.value params.value gives.value
+sig_seen x y r s fx fy same =
+    let whole = sym (sig_parts x r) ∙ same ∙ sig_parts y s in
+    let kinds = same_number_front 1 x.kind y.kind (flag_form x.public ++ (list_form typ_form x.params ++ (typ_form x.gives ++ r))) (flag_form y.public ++ (list_form typ_form y.params ++ (typ_form y.gives ++ s))) (omega (arith, fx.kind)) (omega (arith, fy.kind)) whole in
+    let flags = flag_seen x.public y.public (list_form typ_form x.params ++ (typ_form x.gives ++ r)) (list_form typ_form y.params ++ (typ_form y.gives ++ s)) kinds.1 in
+    let params = list_seen (Always {X = Typ}) typ_form typ_fronts x.params y.params (typ_form x.gives ++ r) (typ_form y.gives ++ s) (typs_fit x.params fx.params) (typs_fit y.params fy.params) flags.rest in
+    let gives = typ_seen x.gives y.gives r s params.rest in
+    record { value = same_sig x.kind y.kind x.public y.public x.params y.params x.gives y.gives kinds.0 flags.value params.value gives.value; rest = gives.rest }
+
+pub sig_fronts : HasFronts FitsSig sig_form
+sig_fronts = record { seen = sig_seen }

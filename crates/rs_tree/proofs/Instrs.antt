@@ -1,5 +1,5 @@
 -- The intermediate form is seen from its bytes.
-use Rattle.std.proofs.Common.{◌≡◌, ◌≢◌, ℕ, ℤ, ◌+◌, ◌^◌, ◌<◌, ◌≤◌, Bool, List, [], ◌∷◌, ◌++◌, inl, inr, refl, sym, ap, ◌∙◌, arith, append_assoc}
+use Rattle.std.proofs.Common.{◌≡◌, ◌≢◌, ℕ, ℤ, ◌^◌, ◌<◌, Bool, List, ◌++◌, sym, ap, ◌∙◌, arith, append_assoc}
 use Rattle.std.specs.Prelude.{FitsSigned}
 use Rattle.std.specs.Int.{cast_signed, cast_unsigned, w64}
 use Rattle.std.proofs.Math.Facts.{Fits-lt-pow, Fits-of_z, to_z-of_z}
@@ -9,25 +9,26 @@ use Rattle.rs_tree.specs.declared.place.Place.{Place}
 use Rattle.rs_tree.specs.declared.ir.Ir.{Ir}
 use Rattle.rs_tree.specs.declared.ir.Instr.{Instr}
 use Rattle.rs_tree.specs.declared.ir.Instr.TheVariants as i
-use Rattle.rs_tree.specs.Fits.{FitsInstr, FitsIr, FitsList, IsJumpCode, IsPlainCode}
-use Rattle.rs_tree.specs.Forms.{code_of, flag_form, flag_of, instr_form, ir_form, operand_form}
-use Rattle.rs_tree.proofs.Fronts.{HasFronts, IsSeen, flag_seen, list_end, list_seen}
+use Rattle.rs_tree.specs.Fits.{FitsInstr, FitsIr, IsJumpCode, IsPlainCode}
+use Rattle.rs_tree.specs.Forms.{code_of, flag_form, instr_form, ir_form, operand_form}
+use Rattle.rs_tree.specs.Readings.{IsSeen}
+use Rattle.rs_tree.proofs.Fronts.{HasFronts, flag_seen, list_seen}
 
 -- codes that are none of the others
-record IsApart (c : ℕ) : Type 0 where
+pub record IsApart (c : ℕ) : Type 0 where
   push : c ≢ 1
   load : c ≢ 2
   store : c ≢ 3
   label : c ≢ 5
   call : c ≢ 48
 
-plain_apart : (c : ℕ) → IsPlainCode c → IsApart c
+pub plain_apart : (c : ℕ) → IsPlainCode c → IsApart c
 plain_apart c is = record { push = λ e. grind arith; load = λ e. grind arith; store = λ e. grind arith; label = λ e. grind arith; call = λ e. grind arith }
 
-jump_apart : (c : ℕ) → IsJumpCode c → IsApart c
+pub jump_apart : (c : ℕ) → IsJumpCode c → IsApart c
 jump_apart c is = record { push = λ e. grind arith; load = λ e. grind arith; store = λ e. grind arith; label = λ e. grind arith; call = λ e. grind arith }
 
-plain_jump : (c d : ℕ) → IsPlainCode c → IsJumpCode d → c ≢ d
+pub plain_jump : (c d : ℕ) → IsPlainCode c → IsJumpCode d → c ≢ d
 plain_jump c d p j = λ e. grind arith
 
 plain_small : (c : ℕ) → IsPlainCode c → c < 256 ^ 1
@@ -67,7 +68,7 @@ push_seen a b r s fa fb same =
     small : (z : ℤ) → FitsSigned w64 z → cast_unsigned w64 z < 256 ^ 8
     small z f = let below : cast_unsigned w64 z < 2 ^ 64 = Fits-lt-pow {w = w64} (Fits-of_z f) in omega (arith, below)
 
-call_parts : (inline : Bool) (place : Place) (r : List ℕ) → (flag_form inline ++ (text_form place.module ++ text_form place.name)) ++ r ≡ flag_form inline ++ (text_form place.module ++ (text_form place.name ++ r))
+pub call_parts : (inline : Bool) (place : Place) (r : List ℕ) → (flag_form inline ++ (text_form place.module ++ text_form place.name)) ++ r ≡ flag_form inline ++ (text_form place.module ++ (text_form place.name ++ r))
 call_parts inline place r =
     append_assoc (flag_form inline) (text_form place.module ++ text_form place.name) r ∙ ap (λ later. flag_form inline ++ later) (append_assoc (text_form place.module) (text_form place.name) r)
 
@@ -145,11 +146,21 @@ ir inline params slots code = record { inline = inline; params = params; slots =
 same_ir : (a b : Bool) (m n k l : ℕ) (c d : List Instr) → a ≡ b → m ≡ n → k ≡ l → c ≡ d → ir a m k c ≡ ir b n l d
 same_ir a b m n k l c d e f g h = cc
 
-pub ir_injective : (x y : Ir) → FitsIr x → FitsIr y → ir_form x ≡ ir_form y → x ≡ y
+pub ir_parts : (x : Ir) (r : List ℕ) → ir_form x ++ r ≡ flag_form x.inline ++ (number_form 2 x.params ++ (number_form 2 x.slots ++ (list_form instr_form x.code ++ r)))
+ir_parts x r =
+    append_assoc (flag_form x.inline) (number_form 2 x.params ++ (number_form 2 x.slots ++ list_form instr_form x.code)) r
+    ∙ ap (λ later. flag_form x.inline ++ later) (append_assoc (number_form 2 x.params) (number_form 2 x.slots ++ list_form instr_form x.code) r
+    ∙ ap (λ later. number_form 2 x.params ++ later) (append_assoc (number_form 2 x.slots) (list_form instr_form x.code) r))
+
+ir_seen : (x y : Ir) (r s : List ℕ) → FitsIr x → FitsIr y → ir_form x ++ r ≡ ir_form y ++ s → IsSeen x y r s
 unfolding ir
-ir_injective x y fx fy same =
-    let flags = flag_seen x.inline y.inline (number_form 2 x.params ++ (number_form 2 x.slots ++ list_form instr_form x.code)) (number_form 2 y.params ++ (number_form 2 y.slots ++ list_form instr_form y.code)) same in
-    let params = same_number_front 2 x.params y.params (number_form 2 x.slots ++ list_form instr_form x.code) (number_form 2 y.slots ++ list_form instr_form y.code) (omega (arith, fx.params)) (omega (arith, fy.params)) flags.rest in
-    let slots = same_number_front 2 x.slots y.slots (list_form instr_form x.code) (list_form instr_form y.code) (omega (arith, fx.slots)) (omega (arith, fy.slots)) params.1 in
-    let code = list_seen FitsInstr instr_form instr_fronts x.code y.code [] [] fx.code fy.code (list_end (list_form instr_form x.code) (list_form instr_form y.code) slots.1) in
-    same_ir x.inline y.inline x.params y.params x.slots y.slots x.code y.code flags.value params.0 slots.0 code.value
+ir_seen x y r s fx fy same =
+    let whole = sym (ir_parts x r) ∙ same ∙ ir_parts y s in
+    let flags = flag_seen x.inline y.inline (number_form 2 x.params ++ (number_form 2 x.slots ++ (list_form instr_form x.code ++ r))) (number_form 2 y.params ++ (number_form 2 y.slots ++ (list_form instr_form y.code ++ s))) whole in
+    let params = same_number_front 2 x.params y.params (number_form 2 x.slots ++ (list_form instr_form x.code ++ r)) (number_form 2 y.slots ++ (list_form instr_form y.code ++ s)) (omega (arith, fx.params)) (omega (arith, fy.params)) flags.rest in
+    let slots = same_number_front 2 x.slots y.slots (list_form instr_form x.code ++ r) (list_form instr_form y.code ++ s) (omega (arith, fx.slots)) (omega (arith, fy.slots)) params.1 in
+    let code = list_seen FitsInstr instr_form instr_fronts x.code y.code r s fx.code fy.code slots.1 in
+    record { value = same_ir x.inline y.inline x.params y.params x.slots y.slots x.code y.code flags.value params.0 slots.0 code.value; rest = code.rest }
+
+pub ir_fronts : HasFronts FitsIr ir_form
+ir_fronts = record { seen = ir_seen }

@@ -6,3 +6,4 @@ pub mod Codes
 pub mod Lists
 pub mod Fronts
 pub mod Instrs
+pub mod Taking

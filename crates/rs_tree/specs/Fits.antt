@@ -2,19 +2,22 @@
 use Rattle.std.specs.Prelude.{◌≡◌, ℕ, ◌^◌, ◌<◌, ◌≤◌, ◌⊎◌, List, [], ◌∷◌, length, FitsSigned}
 use Rattle.std.specs.Int.{w64}
 use Rattle.rs_tree.specs.declared.token.Token.{Token}
-use Rattle.rs_tree.specs.declared.tree.Item.{Item}
-use Rattle.rs_tree.specs.declared.tree.Typ.{Typ}
 use Rattle.rs_tree.specs.declared.index.Index.{Index}
 use Rattle.rs_tree.specs.declared.index.IndexItem.{IndexItem}
 use Rattle.rs_tree.specs.declared.index.Sig.{Sig}
 use Rattle.rs_tree.specs.declared.ir.Ir.{Ir}
 use Rattle.rs_tree.specs.declared.ir.Instr.{Instr}
 use Rattle.rs_tree.specs.declared.ir.Instr.TheVariants as i
+use Rattle.rs_tree.specs.Forms.{code_of}
 
 -- of each element
 abbrev pub Each : {X : Type 0} → (X → Type 0) → List X → Type 0
 Each P [] = Unit {0}
 Each P (x ∷ xs) = P x × Each P xs
+
+-- of a type whose values are all in its range
+abbrev pub Always : {X : Type 0} → X → Type 0
+Always x = Unit {0}
 
 abbrev pub FitsText : List ℕ → Type 0
 FitsText text = length text < 2 ^ 32
@@ -59,6 +62,11 @@ FitsInstr (i.Plain code) = IsPlainCode code
 FitsInstr (i.Jump code label) = IsJumpCode code × (label < 2 ^ 16)
 FitsInstr (i.Label label) = label < 2 ^ 16
 FitsInstr (i.Call inline place) = FitsText place.module × FitsText place.name
+
+-- an instruction of this code
+pub record HasCode (code : ℕ) (instr : Instr) : Type 0 where
+  pub fits : FitsInstr instr
+  pub is : code_of instr ≡ code
 
 pub record FitsIr (ir : Ir) : Type 0 where
   pub params : ir.params < 2 ^ 16

@@ -1,5 +1,5 @@
 -- The bytes of items, of the index, of signatures and of the intermediate form.
-use Rattle.std.specs.Prelude.{ℕ, Bool, if◌then◌else◌, List, [], ◌++◌, length}
+use Rattle.std.specs.Prelude.{ℕ, Bool, if◌then◌else◌, List, [], ◌++◌}
 use Rattle.std.specs.Int.{cast_unsigned, w64}
 use Rattle.inc_wire.specs.Forms.{number_form, text_form, list_form}
 use Rattle.rs_tree.specs.declared.token.Token.{Token}

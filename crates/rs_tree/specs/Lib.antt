@@ -5,3 +5,4 @@ pub mod Equations
 pub mod Weight
 pub mod Forms
 pub mod Fits
+pub mod Readings

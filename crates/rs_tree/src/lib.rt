@@ -6,6 +6,7 @@
 #![tactic(auto)]
 
 mod answers;
+mod code;
 mod field;
 mod forms;
 mod index;
@@ -14,18 +15,23 @@ mod keyword;
 mod kind;
 mod laws;
 mod place;
+mod read;
+mod readers;
 mod sign;
+mod take;
 mod token;
 mod tree;
 mod word;
 
 pub use answers::{Const, Diag, Found};
+pub use code::read_ir;
 pub use forms::{index_bytes, ir_bytes, item_bytes, sig_bytes};
 pub use index::{Index, IndexItem, Sig};
 pub use ir::{Instr, Ir};
 pub use kind::{Kind, is_token, kind_of};
 pub use laws::forms_differ;
 pub use place::{At, Place};
+pub use readers::{read_index, read_item, read_sig};
 pub use sign::sign_of;
 pub use token::Token;
 pub use tree::{

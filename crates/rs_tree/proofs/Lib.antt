@@ -7,3 +7,4 @@ pub mod Lists
 pub mod Fronts
 pub mod Instrs
 pub mod Taking
+pub mod Weights

@@ -7,6 +7,7 @@
 
 mod answers;
 mod code;
+mod copies;
 mod field;
 mod forms;
 mod index;

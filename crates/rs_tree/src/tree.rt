@@ -147,6 +147,10 @@ pub enum UnaryOp {
     Not,
 }
 
+impl Copied for UnaryOp {
+    ghost same = { Prim.search rules };
+}
+
 #[derive(Clone, Copy, Debug, PartialEq, Eq)]
 pub enum ArithOp {
     Add,
@@ -154,6 +158,10 @@ pub enum ArithOp {
     Mul,
     Div,
     Rem,
+}
+
+impl Copied for ArithOp {
+    ghost same = { Prim.search rules };
 }
 
 #[derive(Clone, Copy, Debug, PartialEq, Eq)]
@@ -164,4 +172,8 @@ pub enum CmpOp {
     Greater,
     AtMost,
     AtLeast,
+}
+
+impl Copied for CmpOp {
+    ghost same = { Prim.search rules };
 }

@@ -8,3 +8,4 @@ pub mod Fronts
 pub mod Instrs
 pub mod Taking
 pub mod Weights
+pub mod Mirror

@@ -6,3 +6,4 @@ pub mod Weight
 pub mod Forms
 pub mod Fits
 pub mod Readings
+pub mod Mirrors

@@ -1,12 +1,19 @@
 -- Plain trees: what definitions go over by cases. Each is made of a tree by one fold, and keeps its places and paths.
-use Rattle.std.specs.Prelude.{ℕ, ℤ, Bool, List, [], ◌∷◌, Option, Some, None}
+use Rattle.std.specs.Prelude.{ℕ, ℤ, Bool, List, [], ◌∷◌, map, Option, Some, None}
 use Rattle.rs_tree.specs.declared.place.At.{At}
 use Rattle.rs_tree.specs.declared.tree.Path as path
 use Rattle.rs_tree.specs.declared.tree.Typ.{Typ}
 use Rattle.rs_tree.specs.declared.tree.UnaryOp.{UnaryOp}
 use Rattle.rs_tree.specs.declared.tree.ArithOp.{ArithOp}
 use Rattle.rs_tree.specs.declared.tree.CmpOp.{CmpOp}
+use Rattle.rs_tree.specs.declared.token.Token.{Token}
+use Rattle.rs_tree.specs.declared.tree.Body.{Body}
+use Rattle.rs_tree.specs.declared.tree.Body.TheVariants as body
+use Rattle.rs_tree.specs.declared.tree.Crate.{Crate}
 use Rattle.rs_tree.specs.declared.tree.Expr.{Expr}
+use Rattle.rs_tree.specs.declared.tree.Item.{Item}
+use Rattle.rs_tree.specs.declared.tree.Param.{Param}
+use Rattle.rs_tree.specs.declared.tree.Placed.{Placed}
 use Rattle.rs_tree.specs.declared.tree.Form.TheOpen.{Form-F}
 use Rattle.rs_tree.specs.declared.tree.Form.TheFolds.{fold-Expr}
 use Rattle.rs_tree.specs.declared.tree.Stmt.{Stmt}
@@ -52,6 +59,27 @@ mutual
     Bare : Arms
     Else : (body : Stas) → Arms
     Arm : (cond : Exp) (body : Stas) (more : Arms) → Arms
+
+-- what an item defines
+pub data Definition : Type 0 where
+  Const : (typ : Typ) (value : Exp) → Definition
+  Func : (inlined : Bool) (params : List Param) (gives : Typ) (stmts : Stas) (tail : Option Exp) → Definition
+
+pub record PlainItem : Type 0 where
+  pub public : Bool
+  pub name : List ℕ
+  pub at : At
+  pub tokens : List Token
+  pub body : Definition
+
+pub record PlainPlaced : Type 0 where
+  pub «module» : List ℕ
+  pub start : At
+  pub item : PlainItem
+
+pub record PlainCrate : Type 0 where
+  pub modules : List (List ℕ)
+  pub items : List PlainPlaced
 
 -- several expressions
 abbrev pub exps : List Exp → Exps
@@ -127,6 +155,20 @@ abbrev pub choices : List (Expr × List Stmt) → Option (List Stmt) → Arms
 choices [] None = Bare
 choices [] (Some body) = Else (statements body)
 choices (a ∷ more) other = Arm (exp a.0) (statements a.1) (choices more other)
+
+-- an item, what it defines, and the items of a crate
+abbrev pub definition : Body → Definition
+definition (body.Const typ value) = Const typ (exp value)
+definition (body.Func inlined params gives stmts tail) = Func inlined params gives (statements stmts) (value_of tail)
+
+abbrev pub plain_item : Item → PlainItem
+plain_item item = record { public = item.public; name = item.name; at = item.at; tokens = item.tokens; body = definition item.body }
+
+abbrev pub plain_placed : Placed → PlainPlaced
+plain_placed placed = record { «module» = placed.module; start = placed.start; item = plain_item placed.item }
+
+abbrev pub plain_crate : Crate → PlainCrate
+plain_crate krate = record { modules = krate.modules; items = map plain_placed krate.items }
 
 -- the place of its first byte
 abbrev pub at_of : Exp → At

@@ -13,9 +13,10 @@ use inc_base::{Bytes, Memory};
 use inc_wire::Cursor;
 use std::alloc::Global;
 
-/// An intermediate form, from its bytes: what `ir_bytes` inverts to. None exactly where no form has these
+/// An intermediate form, from its bytes, as `ir_bytes` gives them. None exactly where no form has these
 /// bytes: so an instruction's code is one of the table's. Whether each label that a jump names has a place
-/// isn't looked at (docs/FORMATS.md, "Queries, and the intermediate form").
+/// isn't looked at. `Memory` where there is none for the form (docs/FORMATS.md, "Queries, and the
+/// intermediate form").
 pub fn read_ir(alloc: Global, bytes: &[u8]) -> Result<Option<Ir>, Memory>
     ensures { IfOk result (Reads FitsIr ir_form bytes.now) }
 {

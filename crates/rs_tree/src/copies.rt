@@ -8,7 +8,7 @@ use sqlite_items::{Boxed, Items};
 use std::alloc::{AllocError, Global};
 
 impl Expr {
-    /// A copy, which equals what it copies.
+    /// A copy, which equals what it copies. `Memory` where there is none for it.
     #[cycle(expressions)]
     pub fn copy(&self, alloc: Global) -> Result<Expr, Memory>
         ensures { IfOk result (λ it. it ≡ self.now) }
@@ -19,7 +19,7 @@ impl Expr {
 }
 
 impl Form {
-    /// A copy, which equals what it copies.
+    /// A copy, which equals what it copies. `Memory` where there is none for it.
     #[cycle(expressions)]
     pub fn copy(&self, alloc: Global) -> Result<Form, Memory>
         ensures { IfOk result (λ it. it ≡ self.now) }
@@ -88,7 +88,7 @@ fn tail(alloc: Global, of: &Option<Expr>) -> Result<Option<Expr>, Memory>
 }
 
 impl Stmt {
-    /// A copy, which equals what it copies.
+    /// A copy, which equals what it copies. `Memory` where there is none for it.
     #[cycle(statements)]
     #[tactic(auto, using(crate::proofs::Weights::weighing))]
     pub fn copy(&self, alloc: Global) -> Result<Stmt, Memory>
@@ -180,7 +180,7 @@ fn otherwise(alloc: Global, of: &Option<Items<Stmt>>) -> Result<Option<Items<Stm
 }
 
 impl Body {
-    /// A copy, which equals what it copies.
+    /// A copy, which equals what it copies. `Memory` where there is none for it.
     pub fn copy(&self, alloc: Global) -> Result<Body, Memory>
         ensures { IfOk result (λ it. it ≡ self.now) }
     {

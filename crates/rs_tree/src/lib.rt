@@ -20,6 +20,8 @@ mod read;
 mod readers;
 mod sign;
 mod take;
+#[cfg(test)]
+mod tests;
 mod token;
 mod tree;
 mod word;

@@ -16,24 +16,27 @@ use inc_base::{Bytes, List, Memory};
 use inc_wire::Cursor;
 use std::alloc::Global;
 
-/// The tokens of an item, from its bytes: what `item_bytes` inverts to. None exactly where no tokens have
-/// these bytes (docs/FORMATS.md, "Queries, and the intermediate form").
+/// The tokens of an item, from its bytes, as `item_bytes` gives them. None exactly where no tokens have
+/// these bytes. `Memory` where there is none for the tokens (docs/FORMATS.md, "Queries, and the
+/// intermediate form").
 pub fn read_item(alloc: Global, bytes: &[u8]) -> Result<Option<List<Token>>, Memory>
     ensures { IfOk result (Reads (FitsList FitsToken) (list_form token_form) bytes.now) }
 {
     read_whole(alloc, bytes)
 }
 
-/// The index, from the form that begins with the byte 1: what `index_bytes` inverts to. None exactly where
-/// no index has these bytes (docs/FORMATS.md, "Queries, and the intermediate form").
+/// The index, from its bytes, as `index_bytes` gives them: the form that begins with the byte 1. A kind is
+/// any byte. None exactly where no index has these bytes. `Memory` where there is none for the index
+/// (docs/FORMATS.md, "Queries, and the intermediate form").
 pub fn read_index(alloc: Global, bytes: &[u8]) -> Result<Option<Index>, Memory>
     ensures { IfOk result (Reads FitsIndex index_form bytes.now) }
 {
     read_whole(alloc, bytes)
 }
 
-/// A signature, from its bytes: what `sig_bytes` inverts to. None exactly where no signature has these
-/// bytes (docs/FORMATS.md, "Queries, and the intermediate form").
+/// A signature, from its bytes, as `sig_bytes` gives them. A kind is any byte. None exactly where no
+/// signature has these bytes. `Memory` where there is none for the signature (docs/FORMATS.md, "Queries,
+/// and the intermediate form").
 pub fn read_sig(alloc: Global, bytes: &[u8]) -> Result<Option<Sig>, Memory>
     ensures { IfOk result (Reads FitsSig sig_form bytes.now) }
 {

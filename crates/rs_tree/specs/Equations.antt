@@ -2,6 +2,7 @@
 use Rattle.std.specs.Prelude.{◌≡◌, ℕ, ℤ, Bool, List, [], ◌∷◌, map, Option, Some, None, refl}
 use Rattle.std.proofs.Common.{sym, ap, ◌∙◌, ◌<◌, ◌+◌, length, get_or, drop, add-one}
 use Rattle.std.proofs.Math.Seq.{drop-cons}
+use Rattle.rs_tree.specs.Plain.{Const, Func, definition}
 use Rattle.rs_tree.specs.Plain.{at_of, Exp, Number, Truth, Path, Call, Group, Unary, Arith, Compare, And, Or, exp, exps, operands, form_step, Sta, Let, Assign, Return, Eval, While, If, Print, sta, stas, arms, value_of, arms_of, stmt_step, expressions, operations, statements, choices, Exps, Stas, By, Arm, Else}
 use Rattle.rs_tree.specs.declared.place.At.{At}
 use Rattle.rs_tree.specs.declared.tree.Path as path
@@ -9,12 +10,15 @@ use Rattle.rs_tree.specs.declared.tree.Typ.{Typ}
 use Rattle.rs_tree.specs.declared.tree.UnaryOp.{UnaryOp}
 use Rattle.rs_tree.specs.declared.tree.ArithOp.{ArithOp}
 use Rattle.rs_tree.specs.declared.tree.CmpOp.{CmpOp}
+use Rattle.rs_tree.specs.declared.tree.Body.{Body}
+use Rattle.rs_tree.specs.declared.tree.Body.TheVariants as body
 use Rattle.rs_tree.specs.declared.tree.Expr.{Expr}
 use Rattle.rs_tree.specs.declared.tree.Form.{Form}
 use Rattle.rs_tree.specs.declared.tree.Form.TheVariants as form
 use Rattle.rs_tree.specs.declared.tree.Form.TheOpen.{Form-F}
 use Rattle.rs_tree.specs.declared.tree.Form.TheViews.{roll-Form}
 use Rattle.rs_tree.specs.declared.tree.Form.TheFolds.{fold-Form, fold-roll-Form, fold_out-Form, fold_out-Expr, map-Form}
+use Rattle.rs_tree.specs.declared.tree.Param.{Param}
 use Rattle.rs_tree.specs.declared.tree.Stmt.{Stmt}
 use Rattle.rs_tree.specs.declared.tree.Stmt.TheVariants as stmt
 use Rattle.rs_tree.specs.declared.tree.Stmt.TheOpen.{Stmt-F}
@@ -172,6 +176,14 @@ is_while s cond body is = ap sta is ∙ sta_while cond body
 
 pub is_if : (s : Stmt) (cs : List (Expr × List Stmt)) (other : Option (List Stmt)) → s ≡ stmt.If cs other → sta s ≡ If (choices cs other)
 is_if s cs other is = ap sta is ∙ sta_if cs other
+
+pub is_const : (b : Body) (typ : Typ) (value : Expr) → b ≡ body.Const typ value → definition b ≡ Const typ (exp value)
+is_const b typ value is = ap definition is
+
+pub is_func : (b : Body) (inlined : Bool) (params : List Param) (gives : Typ) (stmts : List Stmt) (tail : Option Expr) → b ≡ body.Func inlined params gives stmts tail → definition b ≡ Func inlined params gives (statements stmts) (value_of tail)
+is_func b inlined params gives stmts tail is = ap definition is
+
+pub ruleset known_bodies = (is_const, is_func)
 
 pub ruleset known_statements = (is_let, is_assign, is_return, is_eval, is_print, is_while, is_if)
 

@@ -69,10 +69,16 @@ impl Kind {
     ghost use Rattle.rs_tree.specs.declared.kind.Kind.{Kind};
 
     /// The number of the kind; no two kinds have the same.
-    #[tactic(auto, using(crate::proofs::Codes::code_injective), unfolding(crate::specs::Kinds::code))]
     pub fn code(self) -> u8
         ensures value { result ≡ code self }
         ensures distinct { (other : Kind) → code other ≡ result → other ≡ self }
+    {
+        self.tag()
+    }
+
+    #[tactic(auto, unfolding(crate::specs::Kinds::code))]
+    fn tag(self) -> u8
+        ensures { result ≡ code self }
     {
         self as u8
     }

@@ -6,7 +6,7 @@ ghost use Rattle.inc_fs.specs.Kinds.{IsKindOf};
 ghost use Rattle.inc_fs.specs.declared.op.Reply.TheVariants.{Fault};
 ghost use Rattle.inc_proto.specs.declared.event.Event.TheVariants.{Begin, Did, Left};
 ghost use Rattle.inc_proto.specs.Growth.{TellsOn};
-ghost use Rattle.inc_dir.specs.Memories.{chance_of, IsTold};
+ghost use Rattle.inc_dir.specs.Memories.{chance_of, HasAnswered};
 
 use crate::dir::Dir;
 use crate::faults::faults_after;
@@ -109,28 +109,8 @@ fn step(fs: &mut Fs, who: u32, op: &Op, chance: Chance) -> Result<(Reply, Reply)
     ensures err { OnErr result (fs.new ≡ fs.old) }
 {
     let reply = fs.apply(who, op, chance)?;
-    let copy = duplicate(&reply)?;
+    let copy = reply.clone()?;
     Ok((reply, copy))
-}
-
-/// Copies a reply. Only one that lists or reads takes memory, and its step changes nothing.
-fn duplicate(reply: &Reply) -> Result<Reply, Memory>
-    ensures ok { IfOk result (λ copy. copy ≡ reply.now) }
-    ensures err { OnErr result (IsTold reply.now) }
-{
-    match reply {
-        Reply::Drawn(moment, random) => Ok(Reply::Drawn(*moment, *random)),
-        Reply::Handle(handle) => Ok(Reply::Handle(*handle)),
-        Reply::Names(names) => Ok(Reply::Names(names.copy()?)),
-        Reply::Bytes(bytes) => Ok(Reply::Bytes(bytes.copy()?)),
-        Reply::Done => Ok(Reply::Done),
-        Reply::Got => Ok(Reply::Got),
-        Reply::Held => Ok(Reply::Held),
-        Reply::Exists => Ok(Reply::Exists),
-        Reply::Missing => Ok(Reply::Missing),
-        Reply::NotEmpty => Ok(Reply::NotEmpty),
-        Reply::Fault => Ok(Reply::Fault),
-    }
 }
 
 impl Dir for MemDir {
@@ -160,7 +140,20 @@ impl Dir for MemDir {
         Ok(())
     }
 
-    fn act(&mut self, op: Op) -> Result<Reply, Memory> {
+    fn act(&mut self, op: Op) -> Result<Reply, Memory>
+        requires { self.old.runs ≡ true }
+        ensures runs { self.new.runs ≡ true }
+        ensures number { self.new.number ≡ self.old.number }
+        ensures kind { IfOk result (λ reply. IsKindOf op reply) }
+        ensures ok { IfOk result (λ reply. TellsOn self.old.number (Some self.old.history) (Some self.new.history) (Did self.old.number op reply ∷ [])) }
+        ensures err { OnErr result (TellsOn self.old.number (Some self.old.history) (Some self.new.history) []) }
+        ensures faults { self.old.faults ≤ self.new.faults }
+        ensures cause { IfOk result (λ reply. reply ≡ Fault → Rose self.old.faults self.new.faults) }
+
+        // The step is the table's, with this act's chance; after `Memory` nothing was done.
+        ensures answered { IfOk result (λ reply. HasAnswered self.old op reply self.new) }
+        ensures kept { OnErr result (self.new ≡ self.old) }
+    {
         let chance = self.chance();
         if let Err(refused) = self.history.make_room(1) {
             drop(op);

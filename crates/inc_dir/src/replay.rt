@@ -99,7 +99,18 @@ impl Dir for ReplayDir {
         Ok(())
     }
 
-    fn act(&mut self, op: Op) -> Result<Reply, Memory> {
+    fn act(&mut self, op: Op) -> Result<Reply, Memory>
+        requires { self.old.runs ≡ true }
+        ensures runs { self.new.runs ≡ true }
+        ensures kind { IfOk result (λ reply. IsKindOf op reply) }
+        ensures faults { self.old.faults ≤ self.new.faults }
+        ensures cause { IfOk result (λ reply. reply ≡ Fault → Rose self.old.faults self.new.faults) }
+
+        // The answer is the next reply, where it is of the op's row, else a fault; after `Memory` nothing was used up.
+        ensures next { IfOk result (λ reply. reply ≡ next_reply self.old.left op) }
+        ensures used { IfOk result (λ reply. self.new ≡ answered self.old reply) }
+        ensures kept { OnErr result (self.new ≡ self.old) }
+    {
         let answer = self.answer(&op);
         drop(op);
         answer

@@ -51,6 +51,12 @@ is_kind_of op reply = false
 abbrev pub IsKindOf : Op → Reply → Type 0
 IsKindOf op reply = IsTrue (is_kind_of op reply)
 
+-- a reply with a list, which only a step that changes nothing has
+abbrev pub IsTold : Reply → Type 0
+IsTold (Names names) = Unit {0}
+IsTold (Bytes bytes) = Unit {0}
+IsTold reply = ⊥
+
 -- a step is answered by a reply of its row
 pub step_kind : (F : State) (who : ℕ) (op : Op) (reply : Reply) (G : State) → Step F who op reply G → IsKindOf op reply
 step_kind F who op Fault G step = refl

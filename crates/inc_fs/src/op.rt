@@ -1,5 +1,6 @@
-ghost use Rattle.std.specs.Prelude.{◌≡◌, IfOk};
+ghost use Rattle.std.specs.Prelude.{◌≡◌, IfOk, OnErr, MatchResult};
 ghost use Rattle.std.proofs.Common.{rules};
+ghost use Rattle.inc_fs.specs.Kinds.{IsTold};
 
 use inc_base::{Bytes, Copied, Label, List};
 use std::alloc::AllocError;
@@ -96,7 +97,7 @@ pub enum Op {
 }
 
 /// What the directory answers.
-#[derive(Clone, Debug, Drop)]
+#[derive(Debug, Drop)]
 pub enum Reply {
     /// The moment, in microseconds, and the random part.
     Drawn(u64, u32),
@@ -248,8 +249,32 @@ fn four(
     Ok((a.clone()?, b.clone()?, c.clone()?, d.clone()?))
 }
 
+// By hand, since a derived clone doesn't say that only a reply with a list takes memory.
+impl Clone for Reply {
+    ghost is_clone = { λ x y. y ≡ x };
+
+    fn clone(&self) -> Result<Reply, AllocError>
+        ensures cases { MatchResult result (λ copy. copy ≡ self.now) (λ _. ¬ ⊥) }
+        ensures err { OnErr result (IsTold self.now) }
+    {
+        match self {
+            Reply::Drawn(moment, random) => Ok(Reply::Drawn(*moment, *random)),
+            Reply::Handle(handle) => Ok(Reply::Handle(*handle)),
+            Reply::Names(names) => Ok(Reply::Names(names.clone()?)),
+            Reply::Bytes(bytes) => Ok(Reply::Bytes(bytes.clone()?)),
+            Reply::Done => Ok(Reply::Done),
+            Reply::Got => Ok(Reply::Got),
+            Reply::Held => Ok(Reply::Held),
+            Reply::Exists => Ok(Reply::Exists),
+            Reply::Missing => Ok(Reply::Missing),
+            Reply::NotEmpty => Ok(Reply::NotEmpty),
+            Reply::Fault => Ok(Reply::Fault),
+        }
+    }
+}
+
 impl Copied for Reply {
-    ghost same = { Prim.search rules };
+    ghost same = { λ x y e. e };
 }
 
 impl Copied for Chance {

@@ -7,15 +7,15 @@ use Rattle.inc_proto.specs.declared.event.Event.TheVariants.{Begin, Left}
 use Rattle.inc_proto.specs.Events.{Steps, did, own_steps}
 use Rattle.inc_proto.specs.Growth.{TellsBy}
 use Rattle.inc_proto.specs.GrowthLaws.{steps_of_whole}
-use Rattle.inc_session.specs.Order.{Plan}
+use Rattle.inc_session.specs.Order.{Plan, IsWholePath, IsPathSoFar}
 use Rattle.inc_session.specs.Machine.{plan_of}
+use Rattle.inc_session.specs.declared.stage.Stage.TheVariants.{Close}
 use Rattle.inc_session.specs.PublishedLaws.{whole_publishes}
-use Rattle.rs_literal.specs.Object.{literal_image}
 use Rattle.inc_cli.specs.declared.status.Status.{Status}
 use Rattle.inc_cli.specs.declared.status.Status.TheVariants.{Done, BadWords, DirectoryFault, SinkFault, SourceFault, OutOfMemory, Disturbed, NotBuilt}
 use Rattle.inc_cli.specs.Words.{BuildsCrate}
 use Rattle.inc_cli.specs.Run.{Inputs, IsJobOf, HasVisited, Visit, HasPublished, Refuses}
-use Rattle.inc_cli.specs.Parts.{IsText, Visited, HasSession, FailsSession}
+use Rattle.inc_cli.specs.Parts.{IsText, IsBuilt, Visited, HasSession, FailsSession}
 
 told_steps : (own : ℕ) (job : Job) (steps : Steps) (old new : Option (List Event)) → TellsBy own old new (Left own None 0 ∷ (did own steps ++ Begin own job ∷ []))
     → IfSome new (λ history. own_steps own history ≡ steps)
@@ -37,10 +37,10 @@ module _ (words : List (List ℕ)) (job : Job) (number own : ℕ) (old new : Inp
   }
 
   -- a session of the job that published is a build that did
-  pub has_published : (image : List ℕ) → HasSession job number own image old.told new.told old.meter new.meter
-      → (published : HasPublished words own old new) × (image ≡ literal_image published.visit.number)
+  pub has_published : (image : List ℕ) (emitted units : ℕ) → HasSession job number own image emitted units old.told new.told old.meter new.meter
+      → (published : HasPublished words own old new) × IsBuilt image emitted units published.visit.number
   unfolding visit_of
-  has_published image session = (record { visit = visit_of _ session.visit; read = text.read; meter = session.meter; alone = λ history G before after leads. whole_publishes own job (plan_of job number) session.visit.ends.found session.visit.ends.closed history G leads }, session.image_is)
+  has_published image emitted units session = (record { visit = visit_of _ session.visit; read = text.read; meter = session.meter; alone = λ history G before after leads. whole_publishes own job (plan_of job number) session.visit.ends.found session.visit.ends.closed history G leads }, session.built)
 
   -- and one that didn't is refused for its cause
   pub is_refused : (status : Status) → FailsSession status job number own old.told new.told old.dir_faults new.dir_faults → Refuses status words own old new
@@ -53,3 +53,23 @@ module _ (words : List (List ℕ)) (job : Job) (number own : ℕ) (old new : Inp
   is_refused SinkFault cause = absurd cause
   is_refused SourceFault cause = absurd cause
   is_refused NotBuilt cause = absurd cause
+
+-- a whole path is a path as far as it goes
+so_far : (plan : Plan) (steps : Steps) → IsWholePath plan steps → IsPathSoFar plan steps
+so_far plan steps whole = record { stage = Close; found = whole.found; seen = whole.seen; last = Some whole.closed; made = whole.made }
+
+-- so where a build that published finds no memory for its line, what a want of memory allows has come to pass
+pub out_of_memory : (words : List (List ℕ)) (own : ℕ) (old new : Inputs) → HasPublished words own old new → Refuses OutOfMemory words own old new
+out_of_memory words own old new published =
+    let visit = published.visit in
+    record {
+      visit = inr (record {
+        job = visit.job;
+        number = visit.number;
+        steps = visit.steps;
+        of_job = visit.of_job;
+        visited = visit.visited;
+        ends = so_far _ _ visit.ends;
+        told = visit.told;
+      });
+    }

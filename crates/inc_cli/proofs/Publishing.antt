@@ -10,34 +10,37 @@ use Rattle.inc_session.specs.declared.outcome.Outcome.TheVariants.{Built, DiskFa
 use Rattle.inc_session.specs.declared.stage.Stage.TheVariants.{Close}
 use Rattle.inc_session.specs.Order.{IsWholePath}
 use Rattle.inc_session.specs.Machine.{Going, HasMade, HasMadeBy, HasBuilt, begun, plan_of, meter_at}
-use Rattle.rs_literal.specs.Object.{literal_image}
 use Rattle.inc_cli.specs.Run.{HasVisited}
-use Rattle.inc_cli.specs.Parts.{HasOutcome, HasSession}
+use Rattle.inc_cli.specs.Parts.{IsBuilt, HasOutcome, HasSession}
 
 -- an outcome with an image is that of a session that built
-record Built_by (g : Going) (image : List ℕ) (steps : Steps) : Type 0 where
-  pub image_is : image ≡ literal_image g.number
+record Built_by (g : Going) (image : List ℕ) (emitted units : ℕ) (steps : Steps) : Type 0 where
+  pub built : IsBuilt image emitted units g.number
   pub whole : IsWholePath g.plan steps
   pub closing : g.stage ≡ Close
 
-built_by : (g : Going) (outcome : Option Outcome) (image : List ℕ) (steps : Steps) → HasOutcome outcome image → HasMadeBy g None outcome steps → Built_by g image steps
-built_by g None image steps is made = absurd is
-built_by g (Some DiskFault) image steps is made = absurd is
-built_by g (Some (Disturbed asked reply)) image steps is made = absurd is
-built_by g (Some (Built bytes emitted units)) image steps is made =
-    record { image_is = is ∙ made.image_is; whole = made.whole; closing = made.closing }
+built_by : (g : Going) (outcome : Option Outcome) (image : List ℕ) (emitted units : ℕ) (steps : Steps)
+    → HasOutcome outcome image emitted units → HasMadeBy g None outcome steps → Built_by g image emitted units steps
+built_by g None image emitted units steps is made = absurd is
+built_by g (Some DiskFault) image emitted units steps is made = absurd is
+built_by g (Some (Disturbed asked reply)) image emitted units steps is made = absurd is
+built_by g (Some (Built its_image its_emitted its_units)) image emitted units steps is made = record {
+  built = record { image_is = is.0 ∙ made.image_is; emitted_is = is.1 ∙ made.emitted_is; units_is = is.2 ∙ made.units_is };
+  whole = made.whole;
+  closing = made.closing;
+}
 
-pub has_session : (job : Job) (number own : ℕ) (image : List ℕ) (old new : Option (List Event)) (before now : ℕ) (first g : Going)
+pub has_session : (job : Job) (number own : ℕ) (image : List ℕ) (emitted units : ℕ) (old new : Option (List Event)) (before now : ℕ) (first g : Going)
     → first ≡ begun job number → (g.plan ≡ first.plan) × (g.number ≡ first.number)
     → (steps : Steps) × HasVisited own job steps old new × HasMade g steps × (g.op ≡ None)
     → ((start : ℕ) → before ≡ meter_at first.stage start → now ≡ meter_at g.stage start)
-    → HasOutcome g.outcome image → HasSession job number own image old new before now
-has_session job number own image old new before now first g is same came metered outcome =
-    let built = built_by g g.outcome image came.0 outcome (subst (λ op. HasMadeBy g op g.outcome came.0) came.3 came.2) in
+    → HasOutcome g.outcome image emitted units → HasSession job number own image emitted units old new before now
+has_session job number own image emitted units old new before now first g is same came metered outcome =
+    let by = built_by g g.outcome image emitted units came.0 outcome (subst (λ op. HasMadeBy g op g.outcome came.0) came.3 came.2) in
     let plan : g.plan ≡ plan_of job number = same.0 ∙ ap (λ s. s.plan) is in
     let started : before ≡ meter_at first.stage before = ap (λ s. meter_at s.stage before) (sym is) in
     record {
-      visit = record { steps = came.0; visited = came.1; ends = subst (λ p. IsWholePath p came.0) plan built.whole };
-      image_is = built.image_is ∙ ap literal_image (same.1 ∙ ap (λ s. s.number) is);
-      meter = metered before started ∙ ap (λ stage. meter_at stage before) built.closing;
+      visit = record { steps = came.0; visited = came.1; ends = subst (λ p. IsWholePath p came.0) plan by.whole };
+      built = subst (IsBuilt image emitted units) (same.1 ∙ ap (λ s. s.number) is) by.built;
+      meter = metered before started ∙ ap (λ stage. meter_at stage before) by.closing;
     }

@@ -43,10 +43,16 @@ pub record Visited (IsEnd : Plan → Steps → Type 0) (job : Job) (number own :
   pub visited : HasVisited own job steps old new
   pub ends : IsEnd (plan_of job number) steps
 
--- it published, with its one unit emitted
-pub record HasSession (job : Job) (number own : ℕ) (image : List ℕ) (old new : Option (List Event)) (before now : ℕ) : Type 0 where
-  pub visit : Visited IsWholePath job number own old new
+-- what is built of a text that prints this number: its image, and its one unit emitted
+pub record IsBuilt (image : List ℕ) (emitted units number : ℕ) : Type 0 where
   pub image_is : image ≡ literal_image number
+  pub emitted_is : emitted ≡ 1
+  pub units_is : units ≡ 1
+
+-- it published, and this is what it built
+pub record HasSession (job : Job) (number own : ℕ) (image : List ℕ) (emitted units : ℕ) (old new : Option (List Event)) (before now : ℕ) : Type 0 where
+  pub visit : Visited IsWholePath job number own old new
+  pub built : IsBuilt image emitted units number
   pub meter : now ≡ ticked before
 
 -- why it published nothing
@@ -57,10 +63,11 @@ FailsSession OutOfMemory job number own old new before now =
     ((other : ℕ) × TellsOn other old new []) ⊎ Visited IsPathSoFar job number own old new
 FailsSession status job number own old new before now = ⊥
 
--- the outcome is this image, of one unit emitted of one
-abbrev pub HasOutcome : Option Outcome → List ℕ → Type 0
-HasOutcome (Some (Built made emitted units)) image = image ≡ made
-HasOutcome outcome image = ⊥
+-- the outcome is this image, with so many units emitted, of so many
+abbrev pub HasOutcome : Option Outcome → List ℕ → ℕ → ℕ → Type 0
+HasOutcome (Some (Built its_image its_emitted its_units)) image emitted units =
+    (image ≡ its_image) × (emitted ≡ its_emitted) × (units ≡ its_units)
+HasOutcome outcome image emitted units = ⊥
 
 -- the outcome is the status's cause
 abbrev pub FailsOutcome : Option Outcome → Status → Type 0

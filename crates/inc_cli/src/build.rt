@@ -1,9 +1,8 @@
 ghost use Rattle.std.specs.Prelude.{◌≡◌, ◌<◌, ◌≤◌, ◌^◌, ℕ, false, map, IfOk, IfErr, OnOk, OnErr};
 ghost use Rattle.inc_base.specs.Outside.{KeepsTelling};
-ghost use Rattle.rs_literal.specs.Object.{literal_image};
 ghost use Rattle.inc_session.specs.Machine.{HasMade};
 ghost use Rattle.inc_cli.specs.Run.{HasPublished, Refuses};
-ghost use Rattle.inc_cli.specs.Parts.{IsText, FailsText, HasSession, FailsSession, HasOutcome, FailsOutcome};
+ghost use Rattle.inc_cli.specs.Parts.{IsText, FailsText, IsBuilt, HasSession, FailsSession, HasOutcome, FailsOutcome};
 
 use crate::status::Status;
 use crate::visit::visit;
@@ -19,6 +18,14 @@ use std::alloc::Global;
 pub(crate) struct Text {
     bytes: Bytes,
     number: u64,
+}
+
+/// What a build made: the image, how many units it emitted, and how many the text has.
+#[derive(Drop)]
+pub(crate) struct Built {
+    pub image: Bytes,
+    pub emitted: u32,
+    pub units: u32,
 }
 
 /// Reads the source to its end, or to one byte past the limit on texts.
@@ -38,31 +45,41 @@ fn text_of<S: Source>(alloc: Global, src: &mut S) -> Result<Text, Status>
     }
 }
 
-/// The image that a session ended with.
-fn image_of(session: Session) -> Result<Bytes, Status>
-    ensures ok { IfOk result (HasOutcome session.outcome) }
+/// What a session ended with.
+fn built_of(session: Session) -> Result<Built, Status>
+    ensures ok { IfOk result (λ built. HasOutcome session.outcome built.image built.emitted built.units) }
     ensures err { IfErr result (FailsOutcome session.outcome) }
 {
     match session.into_outcome() {
-        Some(Outcome::Built { image, .. }) => Ok(image),
+        Some(
+            Outcome::Built {
+                image,
+                emitted,
+                units,
+            },
+        ) => Ok(Built {
+            image,
+            emitted,
+            units,
+        }),
         Some(Outcome::DiskFault) => Err(Status::DirectoryFault),
         Some(Outcome::Disturbed(_, _)) => Err(Status::Disturbed),
         None => Err(Status::OutOfMemory),
     }
 }
 
-/// Lets a session of this job visit the directory, and gives the image of its text.
+/// Lets a session of this job visit the directory, and gives what it built.
 fn publish<D: Dir>(
     alloc: Global,
     job: Job,
     number: u64,
     dir: &mut D,
     meter: &mut Meter,
-) -> Result<Bytes, Status>
+) -> Result<Built, Status>
     requires free { D.runs dir.old ≡ false }
     requires small { number < 2 ^ 63 }
     ensures free { D.runs dir.new ≡ false }
-    ensures ok { IfOk result (λ image. HasSession job number (D.number dir.new) image (D.told dir.old) (D.told dir.new) meter.old meter.new) }
+    ensures ok { IfOk result (λ built. HasSession job number (D.number dir.new) built.image built.emitted built.units (D.told dir.old) (D.told dir.new) meter.old meter.new) }
     ensures err { IfErr result (λ status. FailsSession status job number (D.number dir.new) (D.told dir.old) (D.told dir.new) (D.faults dir.old) (D.faults dir.new)) }
 {
     let Ok(session) = Session::new(alloc, &job, number) else {
@@ -70,25 +87,25 @@ fn publish<D: Dir>(
     };
     let mut session = session;
     match visit(dir, &mut session, job, meter) {
-        Ok(()) => image_of(session),
+        Ok(()) => built_of(session),
         Err(_) => Err(Status::OutOfMemory),
     }
 }
 
-/// Builds what the words and the source ask for, and gives its image.
+/// Builds what the words and the source ask for.
 pub(crate) fn build<S: Source, D: Dir>(
     alloc: Global,
     words: &[&str],
     src: &mut S,
     dir: &mut D,
     meter: &mut Meter,
-) -> Result<Bytes, Status>
+) -> Result<Built, Status>
     requires { D.runs dir.old ≡ false }
     ensures free { D.runs dir.new ≡ false }
-    ensures ok { IfOk result (λ image. (published : HasPublished (map (λ word. word.now) words.now) (D.number dir.new)
+    ensures ok { IfOk result (λ built. (published : HasPublished (map (λ word. word.now) words.now) (D.number dir.new)
         (record { left = S.left src.old; source_faults = S.faults src.old; told = D.told dir.old; dir_faults = D.faults dir.old; meter = meter.old })
         (record { left = S.left src.new; source_faults = S.faults src.new; told = D.told dir.new; dir_faults = D.faults dir.new; meter = meter.new }))
-        × (image ≡ literal_image published.visit.number)) }
+        × IsBuilt built.image built.emitted built.units published.visit.number) }
     ensures err { IfErr result (λ status. Refuses status (map (λ word. word.now) words.now) (D.number dir.new)
         (record { left = S.left src.old; source_faults = S.faults src.old; told = D.told dir.old; dir_faults = D.faults dir.old; meter = meter.old })
         (record { left = S.left src.new; source_faults = S.faults src.new; told = D.told dir.new; dir_faults = D.faults dir.new; meter = meter.new })) }

@@ -1,7 +1,7 @@
 ghost use Rattle.std.specs.Prelude.{◌≡◌, ◌⊎◌, ℕ, IfOk, OnOk, OnErr};
 ghost use Rattle.std.specs.Io.KnownBytes.{Appends};
 ghost use Rattle.inc_base.specs.Outside.{AppendsFront, Rose};
-ghost use Rattle.inc_cli.specs.Statuses.{emitted_line, line_of};
+ghost use Rattle.inc_cli.specs.Statuses.{code_of, emitted_line, line_of};
 ghost use Rattle.inc_cli.specs.Run.{WritesLine, WritesAll, FailsToWrite};
 
 use crate::status::Status;
@@ -38,9 +38,11 @@ pub(crate) fn deliver<O: Sink, I: Sink>(
     write_all(image, bytes)
 }
 
-/// Writes the line of a refusal. That it can't be written changes no status.
-pub(crate) fn refuse<O: Sink>(status: Status, out: &mut O)
-    ensures { Appends (O.held out.old) (O.held out.new) (line_of status) ⊎ Rose (O.faults out.old) (O.faults out.new) × AppendsFront (O.held out.old) (O.held out.new) (line_of status) }
+/// Writes the line of a refusal, and answers its number. That the line can't be written changes no status.
+pub(crate) fn refuse<O: Sink>(status: Status, out: &mut O) -> u8
+    ensures code { result ≡ code_of status }
+    ensures line { Appends (O.held out.old) (O.held out.new) (line_of status) ⊎ Rose (O.faults out.old) (O.faults out.new) × AppendsFront (O.held out.old) (O.held out.new) (line_of status) }
 {
     let _ = write_all(out, status.line());
+    status.code()
 }

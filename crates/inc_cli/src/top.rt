@@ -36,18 +36,15 @@ pub fn run<S: Source, D: Dir, O: Sink, I: Sink>(
         (record { out = O.held out.old; out_faults = O.faults out.old; image = I.held image.old; image_faults = I.faults image.old })
         (record { out = O.held out.new; out_faults = O.faults out.new; image = I.held image.new; image_faults = I.faults image.new }) }
 {
-    let Ok(line) = emitted_line(alloc, 1, 1) else {
-        refuse(Status::OutOfMemory, out);
-        return Status::OutOfMemory.code();
+    let built = match build(alloc, words, src, dir, meter) {
+        Ok(built) => built,
+        Err(status) => return refuse(status, out),
     };
-    match build(alloc, words, src, dir, meter) {
-        Ok(bytes) => match deliver(line.as_slice(), bytes.as_slice(), out, image) {
-            Ok(()) => Status::Done.code(),
-            Err(Failed) => Status::SinkFault.code(),
-        },
-        Err(status) => {
-            refuse(status, out);
-            status.code()
-        }
+    let Ok(line) = emitted_line(alloc, built.emitted, built.units) else {
+        return refuse(Status::OutOfMemory, out);
+    };
+    match deliver(line.as_slice(), built.image.as_slice(), out, image) {
+        Ok(()) => Status::Done.code(),
+        Err(Failed) => Status::SinkFault.code(),
     }
 }

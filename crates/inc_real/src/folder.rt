@@ -2,9 +2,9 @@ ghost use Rattle.std.specs.Prelude.{IfOk};
 ghost use Rattle.inc_fs.specs.Kinds.{IsKindOf};
 ghost use Rattle.inc_fs.specs.declared.op.Op.TheVariants.{Draw, MakeLock, OpenLock, Look, ListDir, MakeDir, Link, Read, Create, Append, Unlink, UnlinkLock, RemoveDir, Rename};
 
-use crate::real::draws::Draws;
-use crate::real::handles::Handles;
-use crate::real::trouble::Trouble;
+use crate::draws::Draws;
+use crate::handles::Handles;
+use crate::trouble::Trouble;
 use inc_base::{Bytes, Label, List, Memory, StdSource, read_to};
 use inc_fs::{Op, Reply};
 use rand_core::{Rng, SeedableRng};

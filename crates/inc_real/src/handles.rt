@@ -2,7 +2,7 @@ ghost use Rattle.std.specs.Prelude.{◌≡◌, ◌≤◌, ◌+◌, ℕ, IfOk};
 ghost use Rattle.inc_fs.specs.Kinds.{IsKindOf};
 ghost use Rattle.inc_fs.specs.declared.op.Op.TheVariants.{TryLock, Close};
 
-use crate::real::trouble::Trouble;
+use crate::trouble::Trouble;
 use inc_base::Memory;
 use inc_fs::Reply;
 use std::alloc::Global;

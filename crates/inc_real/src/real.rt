@@ -1,22 +1,18 @@
-ghost use Rattle.std.specs.Prelude.{◌≡◌, ℕ, List, Option, None, false, IfOk};
+ghost use Rattle.std.specs.Prelude.{◌≡◌, None, false, IfOk};
 
-mod draws;
-mod folder;
-mod handles;
-mod trouble;
-
-use folder::Folder;
+use crate::folder::Folder;
+use crate::trouble::Trouble;
 use inc_base::{Job, Memory};
 use inc_dir::Dir;
 use inc_fs::{Op, Reply};
 use std::fs::{File, Files};
+use std::marker::Model;
 use std::time::Clock;
-use trouble::Trouble;
 
 /// The directory on a folder of the system: its files, folders, hard links and file locks
 /// (docs/PROTOCOL.md, "The directory on the system's files").
 ///
-/// It tells nothing. A step whose row doesn't have what the system answers is answered `Fault`, and
+/// Contracts see whether a session runs, and the count of faults. It tells nothing. A step whose row doesn't have what the system answers is answered `Fault`, and
 /// counted; the count stands still at the end of `u64`.
 ///
 /// This is a trusted edge. Not claimed, since no contract sees the system: what a step does to the
@@ -30,10 +26,22 @@ pub struct RealDir<R: Drop> {
     faults: u64,
 }
 
+impl<R: Drop> Model for RealDir<R> {
+    ghost use Rattle.inc_real.specs.Serving.{Serving};
+
+    ghost Value = { Serving };
+
+    ghost view = { λ d. record { runs = d.runs; faults = d.faults } };
+}
+
 impl<R: Files<File = File> + AllocGlobal + Clock + Clone + Drop> RealDir<R> {
-    /// The directory of this folder, in which no session runs.
+    /// The directory of the folder at this path, which need not be there yet; the empty path is the folder
+    /// that the process works in. No session runs in it.
+    ///
+    /// The seed chooses the random parts that are tried first, so that of processes with different seeds each
+    /// tries others. It touches nothing. `Memory` where there is none for the path.
     pub fn new(rt: R, root: &str, seed: u64) -> Result<RealDir<R>, Memory>
-        ensures { IfOk result (λ dir. (dir.runs ≡ false) × (dir.faults ≡ 0)) }
+        ensures { IfOk result (λ dir. dir ≡ record { runs = false; faults = 0 }) }
     {
         Ok(RealDir {
             folder: Folder::new(rt, root, seed)?,

@@ -1,15 +1,13 @@
 //! The program `incc`.
 //!
 //! It opens what its words name, hands all of it to `inc_cli::run`, and ends with the status that this
-//! answers. `inc_cli` reads the words and decides each status. The directory on the system's files is
-//! `RealDir` in `real`, which nothing below knows of. Open `main` first.
+//! answers. `inc_cli` reads the words and decides each status, and `inc_real` is the directory on the system's
+//! files. Open `main` first.
 #![tactic(auto)]
-
-mod real;
 
 use inc_base::{Bytes, Memory, Meter, Sink, StdSink, StdSource, write_all};
 use inc_cli::{OpenPlaces, Status, places, run};
-use real::RealDir;
+use inc_real::RealDir;
 use std::fs::{File, Files};
 use std::io::ErrorKind;
 use std::process::ExitCode;

@@ -1,0 +1,35 @@
+-- What the steps of a parse answer.
+use Rattle.std.specs.Prelude.{◌≡◌, ℕ, List, Result, Ok, Err}
+use Rattle.rs_tree.specs.declared.place.At.{At}
+use Rattle.rs_tree.specs.declared.token.Token.{Token}
+use Rattle.rs_parse.specs.declared.fault.SyntaxFault.{SyntaxFault}
+use Rattle.rs_parse.specs.declared.fault.SyntaxFault.TheVariants as fault
+use Rattle.rs_parse.specs.declared.part.Building.{Building}
+use Rattle.rs_parse.specs.declared.twice.Named.{Named}
+use Rattle.rs_parse.specs.Lexeme.{lexemes}
+use Rattle.rs_parse.specs.Grammar.{Piece}
+use Rattle.rs_parse.specs.Correct.{Fits, modules_of, items_of, names_of}
+use Rattle.rs_parse.specs.Twice.{AllOnce, IsFirstTwice}
+
+-- the pieces of the whole text were added
+pub record HasPieces (tokens : List Token) (found : Building) : Type 0 where
+  pub pieces : List Piece
+  pub fit : Fits (lexemes tokens) pieces
+  pub only : (others : List Piece) → Fits (lexemes tokens) others → others ≡ pieces
+  pub modules : found.modules ≡ modules_of pieces
+  pub items : found.items ≡ items_of pieces
+  pub names : found.names ≡ names_of pieces
+
+pub record IsTwiceAt (names : List Named) (at : At) (name : List ℕ) : Type 0 where
+  pub named : Named
+  pub first : IsFirstTwice names named
+  pub place : at ≡ named.at
+  pub text : name ≡ named.name
+
+-- each name is defined once, or which isn't
+abbrev pub HasNames : List Named → Result (Unit {0}) SyntaxFault → Type 0
+HasNames names (Ok done) = AllOnce names
+HasNames names (Err (fault.Twice at name)) = IsTwiceAt names at name
+HasNames names (Err fault.Memory) = Unit {0}
+HasNames names (Err (fault.Nesting at)) = ⊥
+HasNames names (Err (fault.Syntax at)) = ⊥

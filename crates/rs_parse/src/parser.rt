@@ -1,0 +1,72 @@
+//! The parse of a whole text.
+
+ghost use Rattle.std.specs.Prelude.{◌≡◌, IfOk, IfErr};
+ghost use Rattle.rs_parse.specs.Lexeme.{lexemes, token_kinds};
+ghost use Rattle.rs_parse.specs.Nesting.{IsShallow};
+ghost use Rattle.rs_parse.specs.Correct.{HasTree, IsRefusal};
+ghost use Rattle.rs_parse.specs.Whole.{HasPieces, HasNames};
+
+use crate::fault::{Fault, SyntaxFault};
+use crate::lexeme::kinds_of;
+use crate::nesting::first_too_deep;
+use crate::part::{Building, parts};
+use crate::tokens::Whole;
+use crate::twice::first_twice;
+use inc_base::Copied;
+use rs_tree::{At, Crate, Kind, Token};
+use std::alloc::Global;
+
+/// The tree that fits the tokens of a text, or the text's first fault (docs/LANGUAGE.md, "Grammar" and
+/// "Faults"). `end` is the place after the text's last byte.
+///
+/// The faults come in this order: nesting over 64, then syntax, then a name defined twice, each at its first
+/// place. What is no token counts as a keyword that no form has. `Memory` comes only for want of memory. The
+/// places of an item are relative to its first token, as far as the tokens' places ascend.
+pub fn parse(alloc: Global, tokens: &[Token], end: At) -> Result<Crate, SyntaxFault>
+    ensures tree { IfOk result (HasTree tokens.now) }
+    ensures fault { IfErr result (IsRefusal tokens.now end) }
+{
+    let kinds = kinds_of(alloc, tokens)?;
+    if let Some(at) = first_too_deep(tokens, &kinds) {
+        return Err(SyntaxFault::Nesting(at));
+    }
+    let found = read_all(alloc, tokens, &kinds, end)?;
+    check_names(alloc, &found)?;
+    let Building { modules, items, .. } = found;
+    Ok(Crate { modules, items })
+}
+
+/// What stands in the whole text.
+fn read_all(
+    alloc: Global,
+    tokens: &[Token],
+    kinds: &[Kind],
+    end: At,
+) -> Result<Building, SyntaxFault>
+    requires kinds { kinds.now ≡ token_kinds tokens.now }
+    requires shallow { IsShallow (lexemes tokens.now) }
+    ensures found { IfOk result (HasPieces tokens.now) }
+    ensures fault { IfErr result (IsRefusal tokens.now end) }
+{
+    let mut found = Building::new(alloc);
+    let mut rest = Whole::new(tokens, kinds);
+    match parts(alloc, &mut rest, &mut found) {
+        Ok(()) => {}
+        Err(Fault::Memory) => return Err(SyntaxFault::Memory),
+        Err(Fault::Syntax) => return Err(SyntaxFault::Syntax(rest.at().unwrap_or(end))),
+    }
+    match rest.at() {
+        Some(at) => Err(SyntaxFault::Syntax(at)),
+        None => Ok(found),
+    }
+}
+
+/// Whether each name is defined once.
+fn check_names(alloc: Global, found: &Building) -> Result<(), SyntaxFault>
+    ensures { HasNames found.now.names result }
+{
+    match first_twice(alloc, found.names.as_slice())? {
+        Some(named) => Err(SyntaxFault::Twice(named.at, named.name.copy()?)),
+        None => Ok(()),
+    }
+}

@@ -1,5 +1,5 @@
 -- A build is its words, its text and its session.
-use Rattle.std.proofs.Common.{◌≡◌, ◌⊎◌, inl, inr, ℕ, [], ◌∷◌, ◌++◌, Some, None, refl, subst, sym}
+use Rattle.std.proofs.Common.{◌≡◌, inl, inr, ℕ, [], ◌∷◌, ◌++◌, Some, None, subst, sym}
 use Rattle.std.specs.Prelude.{Option, List, IfSome}
 use Rattle.inc_base.specs.declared.job.Job.{Job}
 use Rattle.inc_proto.specs.declared.event.Event.{Event}
@@ -14,7 +14,7 @@ use Rattle.inc_session.specs.PublishedLaws.{whole_publishes}
 use Rattle.inc_cli.specs.declared.status.Status.{Status}
 use Rattle.inc_cli.specs.declared.status.Status.TheVariants.{Done, BadWords, DirectoryFault, SinkFault, SourceFault, OutOfMemory, Disturbed, NotBuilt}
 use Rattle.inc_cli.specs.Words.{BuildsCrate}
-use Rattle.inc_cli.specs.Run.{Inputs, IsJobOf, HasVisited, Visit, HasPublished, Refuses}
+use Rattle.inc_cli.specs.Run.{Inputs, Visit, HasPublished, Refuses}
 use Rattle.inc_cli.specs.Parts.{IsText, IsBuilt, Visited, HasSession, FailsSession}
 
 told_steps : (own : ℕ) (job : Job) (steps : Steps) (old new : Option (List Event)) → TellsBy own old new (Left own None 0 ∷ (did own steps ++ Begin own job ∷ []))

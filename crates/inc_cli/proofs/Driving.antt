@@ -1,5 +1,5 @@
 -- A session on its way through a directory.
-use Rattle.std.proofs.Common.{◌≡◌, ℕ, ◌≤◌, Bool, true, false, List, [], ◌∷◌, Some, None, refl, ap, ◌∙◌, sym, subst, arith}
+use Rattle.std.proofs.Common.{◌≡◌, ℕ, ◌≤◌, Bool, true, false, List, [], ◌∷◌, Some, None, refl, ap, ◌∙◌, subst, arith}
 use Rattle.std.specs.Prelude.{Option}
 use Rattle.inc_base.specs.Outside.{Rose}
 use Rattle.inc_fs.specs.declared.op.Op.{Op}
@@ -13,7 +13,7 @@ use Rattle.inc_proto.specs.Growth.{TellsBy, TellsOn}
 use Rattle.inc_proto.specs.GrowthLaws.{tells_nothing, tells_then, tells_same}
 use Rattle.inc_session.specs.declared.stage.Stage.{Stage}
 use Rattle.inc_session.specs.declared.outcome.Outcome.TheVariants.{DiskFault}
-use Rattle.inc_session.specs.Order.{Plan, IsPathSoFar, goes_on}
+use Rattle.inc_session.specs.Order.{IsPathSoFar, goes_on}
 use Rattle.inc_session.specs.Machine.{Going, HasMade, fed, fed_by, gone_to, learnt, idle, next_of, meter_at, metered_by}
 use Rattle.inc_session.specs.MachineLaws.{made_one, asking, on_path, on_path_still, metered_stage, fault_was}
 use Rattle.inc_cli.specs.Visits.{HasGone}

@@ -1,7 +1,6 @@
 -- What a session that ended has published.
-use Rattle.std.proofs.Common.{◌≡◌, ℕ, [], Some, None, refl, ap, ◌∙◌, sym, subst}
+use Rattle.std.proofs.Common.{◌≡◌, ℕ, Some, None, ap, ◌∙◌, sym, subst}
 use Rattle.std.specs.Prelude.{Option, List}
-use Rattle.inc_base.specs.Meters.{ticked}
 use Rattle.inc_base.specs.declared.job.Job.{Job}
 use Rattle.inc_proto.specs.declared.event.Event.{Event}
 use Rattle.inc_proto.specs.Events.{Steps}
@@ -9,7 +8,7 @@ use Rattle.inc_session.specs.declared.outcome.Outcome.{Outcome}
 use Rattle.inc_session.specs.declared.outcome.Outcome.TheVariants.{Built, DiskFault, Disturbed}
 use Rattle.inc_session.specs.declared.stage.Stage.TheVariants.{Close}
 use Rattle.inc_session.specs.Order.{IsWholePath}
-use Rattle.inc_session.specs.Machine.{Going, HasMade, HasMadeBy, HasBuilt, begun, plan_of, meter_at}
+use Rattle.inc_session.specs.Machine.{Going, HasMade, HasMadeBy, begun, plan_of, meter_at}
 use Rattle.inc_cli.specs.Run.{HasVisited}
 use Rattle.inc_cli.specs.Parts.{IsBuilt, HasOutcome, HasSession}
 

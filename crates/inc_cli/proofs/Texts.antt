@@ -1,5 +1,5 @@
 -- What was read of a source.
-use Rattle.std.proofs.Common.{◌≡◌, ℕ, ◌≤◌, List, [], ◌++◌, length, append-nil, length-append, Some, None, subst, ap, ◌∙◌, sym, arith}
+use Rattle.std.proofs.Common.{◌≡◌, ℕ, ◌≤◌, List, ◌++◌, length, append-nil, length-append, Some, None, subst, ap, ◌∙◌, arith}
 use Rattle.std.specs.Prelude.{Option, IfSome}
 use Rattle.std.specs.Io.KnownBytes.{Consumes, IsAtEnd}
 use Rattle.rs_literal.specs.Literal.{IsLiteral, text_limit}

@@ -1,5 +1,5 @@
 -- The statuses of a top call, and what a refusal writes.
-use Rattle.std.specs.Prelude.{◌≡◌, ℕ, ◌++◌, List, [], codes, decimal}
+use Rattle.std.specs.Prelude.{ℕ, ◌++◌, List, [], codes, decimal}
 use Rattle.inc_cli.specs.declared.status.Status.{Status}
 use Rattle.inc_cli.specs.declared.status.Status.TheVariants.{Done, BadWords, DirectoryFault, SinkFault, SourceFault, OutOfMemory, Disturbed, NotBuilt}
 

@@ -1,6 +1,4 @@
-ghost use Rattle.std.specs.Prelude.{◌≡◌, ◌<◌, ◌≤◌, ◌^◌, ℕ, false, map, IfOk, IfErr, OnOk, OnErr};
-ghost use Rattle.inc_base.specs.Outside.{KeepsTelling};
-ghost use Rattle.inc_session.specs.Machine.{HasMade};
+ghost use Rattle.std.specs.Prelude.{◌≡◌, ◌<◌, ◌^◌, false, map, IfOk, IfErr};
 ghost use Rattle.inc_cli.specs.Run.{HasPublished, Refuses};
 ghost use Rattle.inc_cli.specs.Parts.{IsText, FailsText, IsBuilt, HasSession, FailsSession, HasOutcome, FailsOutcome};
 

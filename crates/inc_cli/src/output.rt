@@ -1,8 +1,8 @@
-ghost use Rattle.std.specs.Prelude.{◌≡◌, ◌⊎◌, ℕ, IfOk, OnOk, OnErr};
+ghost use Rattle.std.specs.Prelude.{◌≡◌, ◌⊎◌, IfOk, OnOk, OnErr};
 ghost use Rattle.std.specs.Io.KnownBytes.{Appends};
 ghost use Rattle.inc_base.specs.Outside.{AppendsFront, Rose};
 ghost use Rattle.inc_cli.specs.Statuses.{code_of, emitted_line, line_of};
-ghost use Rattle.inc_cli.specs.Run.{WritesLine, WritesAll, FailsToWrite};
+ghost use Rattle.inc_cli.specs.Run.{WritesAll, FailsToWrite};
 
 use crate::status::Status;
 use inc_base::{Bytes, Failed, Memory, Sink, write_all};

@@ -1,9 +1,9 @@
-ghost use Rattle.std.specs.Prelude.{◌≡◌, ◌⊎◌, ◌≤◌, ◌<◌, ◌^◌, ℕ, [], true, false, None, Some, OnOk, OnErr};
+ghost use Rattle.std.specs.Prelude.{◌≡◌, ◌⊎◌, ◌≤◌, ◌<◌, ℕ, [], true, false, None, Some, OnOk, OnErr};
 ghost use Rattle.inc_base.specs.Outside.{Rose};
 ghost use Rattle.inc_proto.specs.Events.{Steps};
 ghost use Rattle.inc_proto.specs.Growth.{TellsOn};
 ghost use Rattle.inc_session.specs.Order.{IsPathSoFar};
-ghost use Rattle.inc_session.specs.Machine.{HasMade, meter_at, begun, plan_of};
+ghost use Rattle.inc_session.specs.Machine.{HasMade, meter_at};
 ghost use Rattle.inc_session.specs.declared.outcome.Outcome.TheVariants.{DiskFault};
 ghost use Rattle.inc_cli.specs.Run.{HasVisited};
 ghost use Rattle.inc_cli.specs.Visits.{HasGone, HasCome};

@@ -1,5 +1,4 @@
-use Rattle.std.proofs.Common.{◌≡◌, ◌∷◌, [], List, ℕ, length, get_or, map, ap, ◌∙◌, arith, rules}
-use Rattle.inc_cli.specs.Words.{AreOptions, AreValues, spelled}
+use Rattle.std.proofs.Common.{◌≡◌, [], length, map, ap, arith, rules}
 use Rattle.inc_cli.proofs.Nine.{nine, spelled_by}
 use Rattle.inc_cli.proofs.words.build_words.Goals as goal
 

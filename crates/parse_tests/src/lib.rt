@@ -11,3 +11,9 @@ mod answer;
 mod faults;
 #[cfg(test)]
 mod nesting;
+#[cfg(test)]
+mod print;
+#[cfg(test)]
+mod print_statement;
+#[cfg(test)]
+mod trees;

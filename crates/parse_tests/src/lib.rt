@@ -16,4 +16,8 @@ mod print;
 #[cfg(test)]
 mod print_statement;
 #[cfg(test)]
+mod speed;
+#[cfg(test)]
+mod text;
+#[cfg(test)]
 mod trees;

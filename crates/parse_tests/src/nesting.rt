@@ -1,21 +1,8 @@
 //! How deep brackets nest: 64 may be open at once, and what is closed before it is opened doesn't count.
 
 use crate::answer::{Answer, answer_of};
-use std::alloc::{AllocError, Global};
+use crate::text::{Times, text_of};
 use std::test::Fail;
-
-/// A piece, some times.
-type Times<'a> = (&'a str, usize);
-
-fn text_of(alloc: Global, pieces: &[Times<'_>]) -> Result<String, AllocError> {
-    let mut text = String::new(alloc);
-    for (piece, times) in pieces {
-        for _ in 0..*times {
-            text.push_str(piece)?;
-        }
-    }
-    Ok(text)
-}
 
 #[test]
 fn at_most_64_are_open(rt: HostRuntime) -> Result<(), Fail> {

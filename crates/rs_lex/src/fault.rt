@@ -14,6 +14,11 @@ pub enum LexFault {
 }
 
 impl From<Memory> for LexFault {
+    ghost use Rattle.std.specs.Prelude.{◌≡◌};
+    ghost use Rattle.rs_lex.specs.declared.fault.LexFault.TheVariants as fault;
+
+    ghost from_gives = { λ _ e. e ≡ fault.Memory };
+
     fn from(_refused: Memory) -> LexFault {
         LexFault::Memory
     }

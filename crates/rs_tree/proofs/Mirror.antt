@@ -1,6 +1,7 @@
 -- A tree is made again from its mirror.
 use Rattle.std.proofs.Common.{◌≡◌, List, [], ◌∷◌, Option, Some, None, map, refl, sym, ap, subst, ◌∙◌}
 use Rattle.rs_tree.specs.declared.place.At.{At}
+use Rattle.rs_tree.specs.declared.tree.Path as path
 use Rattle.rs_tree.specs.declared.tree.ArithOp.{ArithOp}
 use Rattle.rs_tree.specs.declared.tree.Expr.{Expr}
 use Rattle.rs_tree.specs.declared.tree.Form.{Form}
@@ -18,7 +19,7 @@ use Rattle.rs_tree.specs.declared.tree.Body.TheVariants as body
 use Rattle.rs_tree.specs.declared.tree.Crate.{Crate}
 use Rattle.rs_tree.specs.declared.tree.Item.{Item}
 use Rattle.rs_tree.specs.declared.tree.Placed.{Placed}
-use Rattle.rs_tree.specs.Plain.{Sta, Let, Assign, Return, Eval, While, If, Print, Stas, Arms, Bare, Else, Arm, sta, statements, choices, value_of}
+use Rattle.rs_tree.specs.Plain.{Sta, Let, Assign, Return, Eval, While, If, Print, Stas, Arms, Bare, Else, Arm, sta, statements, choices, optional}
 use Rattle.rs_tree.specs.Plain.{Definition, Const, Func, PlainItem, PlainPlaced, PlainCrate, definition, plain_item, plain_placed, plain_crate}
 use Rattle.rs_tree.specs.Equations.{sta_let, sta_assign, sta_return, sta_eval, sta_print, sta_while, sta_if}
 use Rattle.rs_tree.specs.Plain.{Exp, Number, Truth, Path, Call, Group, Unary, Arith, Compare, And, Or, Exps, Operands, Done, By, exp, expressions, operations}
@@ -28,7 +29,7 @@ abbrev tree : At → Form → Expr
 tree at f = record { at = at; form = f }
 
 abbrev mutual
-  back : Exp → Expr
+  back : Exp path.Path → Expr
   back (Number at n) = tree at (form.Number n)
   back (Truth at b) = tree at (form.Truth b)
   back (Path at n) = tree at (form.Path n)
@@ -40,11 +41,11 @@ abbrev mutual
   back (And at parts) = tree at (form.And (backs parts))
   back (Or at parts) = tree at (form.Or (backs parts))
 
-  backs : Exps → List Expr
+  backs : Exps path.Path → List Expr
   backs Exps.Empty = []
   backs (Exps.Of e more) = back e ∷ backs more
 
-  back_operands : Operands → List (ArithOp × Expr)
+  back_operands : Operands path.Path → List (ArithOp × Expr)
   back_operands Done = []
   back_operands (By op e more) = (op, back e) ∷ back_operands more
 
@@ -103,16 +104,16 @@ expr_seen a b same = sym (expr_back a) ∙ ap back same ∙ expr_back b
 
 -- statements
 
-abbrev back_value : Option Exp → Option Expr
+abbrev back_value : Option (Exp path.Path) → Option Expr
 back_value None = None
 back_value (Some e) = Some (back e)
 
-value_back : (value : Option Expr) → back_value (value_of value) ≡ value
+value_back : (value : Option Expr) → back_value (optional value) ≡ value
 value_back None = refl
 value_back (Some e) = ap Some (expr_back e)
 
 abbrev mutual
-  made : Sta → Stmt
+  made : Sta path.Path → Stmt
   made (Let mutable at name typ value) = stmt.Let mutable at name typ (back value)
   made (Assign at name value) = stmt.Assign at name (back value)
   made (Return at value) = stmt.Return at (back_value value)
@@ -121,16 +122,16 @@ abbrev mutual
   made (If arms) = stmt.If (made_arms arms) (made_other arms)
   made (Print value) = stmt.Print (back value)
 
-  mades : Stas → List Stmt
+  mades : Stas path.Path → List Stmt
   mades Stas.Empty = []
   mades (Stas.Of s more) = made s ∷ mades more
 
-  made_arms : Arms → List (Expr × List Stmt)
+  made_arms : Arms path.Path → List (Expr × List Stmt)
   made_arms Bare = []
   made_arms (Else body) = []
   made_arms (Arm cond body more) = (back cond, mades body) ∷ made_arms more
 
-  made_other : Arms → Option (List Stmt)
+  made_other : Arms path.Path → Option (List Stmt)
   made_other Bare = None
   made_other (Else body) = Some (mades body)
   made_other (Arm cond body more) = made_other more
@@ -198,20 +199,20 @@ all_made : (ss : List Stmt) → mades (statements ss) ≡ ss
 all_made [] = refl
 all_made (s ∷ more) = ap (λ h. h ∷ mades (statements more)) (made_is s) ∙ ap (λ t. s ∷ t) (all_made more)
 
-abbrev body_back : Definition → Body
+abbrev body_back : Definition path.Path → Body
 body_back (Const typ value) = body.Const typ (back value)
 body_back (Func inlined params gives stmts tail) = body.Func inlined params gives (mades stmts) (back_value tail)
 
 body_is : (b : Body) → body_back (definition b) ≡ b
 body_is (body.Const typ value) = ap (body.Const typ) (expr_back value)
 body_is (body.Func inlined params gives stmts tail) =
-    ap (λ ss. body.Func inlined params gives ss (back_value (value_of tail))) (all_made stmts)
+    ap (λ ss. body.Func inlined params gives ss (back_value (optional tail))) (all_made stmts)
     ∙ ap (body.Func inlined params gives stmts) (value_back tail)
 
 pub body_seen : (a b : Body) → definition a ≡ definition b → a ≡ b
 body_seen a b same = sym (body_is a) ∙ ap body_back same ∙ body_is b
 
-abbrev item_back : PlainItem → Item
+abbrev item_back : PlainItem path.Path → Item
 item_back item = record { public = item.public; name = item.name; at = item.at; tokens = item.tokens; body = body_back item.body }
 
 item_is : (item : Item) → item_back (plain_item item) ≡ item
@@ -220,7 +221,7 @@ item_is item = ap (λ b. record item { body = b }) (body_is item.body)
 pub item_seen : (a b : Item) → plain_item a ≡ plain_item b → a ≡ b
 item_seen a b same = sym (item_is a) ∙ ap item_back same ∙ item_is b
 
-abbrev placed_back : PlainPlaced → Placed
+abbrev placed_back : PlainPlaced path.Path → Placed
 placed_back placed = record { «module» = placed.module; start = placed.start; item = item_back placed.item }
 
 placed_is : (placed : Placed) → placed_back (plain_placed placed) ≡ placed
@@ -233,7 +234,7 @@ items_back : (items : List Placed) → map placed_back (map plain_placed items) 
 items_back [] = refl
 items_back (p ∷ more) = ap (λ h. h ∷ map placed_back (map plain_placed more)) (placed_is p) ∙ ap (λ t. p ∷ t) (items_back more)
 
-abbrev crate_back : PlainCrate → Crate
+abbrev crate_back : PlainCrate path.Path → Crate
 crate_back krate = record { modules = krate.modules; items = map placed_back krate.items }
 
 crate_is : (krate : Crate) → crate_back (plain_crate krate) ≡ krate

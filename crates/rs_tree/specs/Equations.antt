@@ -3,7 +3,7 @@ use Rattle.std.specs.Prelude.{◌≡◌, ℕ, ℤ, Bool, List, [], ◌∷◌, ma
 use Rattle.std.proofs.Common.{sym, ap, ◌∙◌, ◌<◌, ◌+◌, length, get_or, drop, add-one}
 use Rattle.std.proofs.Math.Seq.{drop-cons}
 use Rattle.rs_tree.specs.Plain.{Const, Func, definition}
-use Rattle.rs_tree.specs.Plain.{at_of, Exp, Number, Truth, Path, Call, Group, Unary, Arith, Compare, And, Or, exp, exps, operands, form_step, Sta, Let, Assign, Return, Eval, While, If, Print, sta, stas, arms, value_of, arms_of, stmt_step, expressions, operations, statements, choices, Exps, Stas, By, Arm, Else}
+use Rattle.rs_tree.specs.Plain.{at_of, Exp, Number, Truth, Path, Call, Group, Unary, Arith, Compare, And, Or, exp, exps, operands, form_step, Sta, Let, Assign, Return, Eval, While, If, Print, sta, stas, arms, optional, arms_of, stmt_step, expressions, operations, statements, choices, Exps, Stas, By, Arm, Else}
 use Rattle.rs_tree.specs.declared.place.At.{At}
 use Rattle.rs_tree.specs.declared.tree.Path as path
 use Rattle.rs_tree.specs.declared.tree.Typ.{Typ}
@@ -39,11 +39,11 @@ statements_map : (ss : List Stmt) → stas (map sta ss) ≡ statements ss
 statements_map [] = refl
 statements_map (s ∷ more) = ap (Stas.Of (sta s)) (statements_map more)
 
-exp_by : (at : At) (f : Form) (x : Form-F Form Expr) → roll-Form x ≡ f → exp (tree at f) ≡ form_step (map-Form Form Expr (At → Exp) Exp (fold-Form (At → Exp) Exp form_step (λ e. e.form e.at)) exp x) at
+exp_by : (at : At) (f : Form) (x : Form-F Form Expr) → roll-Form x ≡ f → exp (tree at f) ≡ form_step (map-Form Form Expr (At → Exp path.Path) (Exp path.Path) (fold-Form (At → Exp path.Path) (Exp path.Path) form_step (λ e. e.form e.at)) exp x) at
 exp_by at f x is =
     ap (λ g. exp (tree at g)) (sym is) ∙
-    fold_out-Expr (At → Exp) Exp form_step (λ e. e.form e.at) (tree at (roll-Form x)) ∙
-    ap (λ g. g at) (fold-roll-Form (At → Exp) Exp form_step (λ e. e.form e.at) x)
+    fold_out-Expr (At → Exp path.Path) (Exp path.Path) form_step (λ e. e.form e.at) (tree at (roll-Form x)) ∙
+    ap (λ g. g at) (fold-roll-Form (At → Exp path.Path) (Exp path.Path) form_step (λ e. e.form e.at) x)
 
 pub exp_number : (at : At) (n : ℤ) → exp (record { at = at; form = form.Number n }) ≡ Number at n
 exp_number at n = exp_by at (form.Number n) (Form-F.Number n) (form.rolls-Number n)
@@ -76,23 +76,23 @@ pub exp_or : (at : At) (parts : List Expr) → exp (record { at = at; form = for
 exp_or at parts = exp_by at (form.Or parts) (Form-F.Or parts) (form.rolls-Or parts) ∙ ap (Or at) (expressions_map parts)
 
 pub sta_let : (mutable : Bool) (at : At) (name : List ℕ) (typ : Option Typ) (value : Expr) → sta (stmt.Let mutable at name typ value) ≡ Let mutable at name typ (exp value)
-sta_let mutable at name typ value = ap sta (sym (stmt.rolls-Let mutable at name typ value)) ∙ fold-roll-Stmt Sta stmt_step (Stmt-F.Let mutable at name typ value)
+sta_let mutable at name typ value = ap sta (sym (stmt.rolls-Let mutable at name typ value)) ∙ fold-roll-Stmt (Sta path.Path) stmt_step (Stmt-F.Let mutable at name typ value)
 
 pub sta_assign : (at : At) (name : List ℕ) (value : Expr) → sta (stmt.Assign at name value) ≡ Assign at name (exp value)
-sta_assign at name value = ap sta (sym (stmt.rolls-Assign at name value)) ∙ fold-roll-Stmt Sta stmt_step (Stmt-F.Assign at name value)
+sta_assign at name value = ap sta (sym (stmt.rolls-Assign at name value)) ∙ fold-roll-Stmt (Sta path.Path) stmt_step (Stmt-F.Assign at name value)
 
-pub sta_return : (at : At) (value : Option Expr) → sta (stmt.Return at value) ≡ Return at (value_of value)
-sta_return at value = ap sta (sym (stmt.rolls-Return at value)) ∙ fold-roll-Stmt Sta stmt_step (Stmt-F.Return at value)
+pub sta_return : (at : At) (value : Option Expr) → sta (stmt.Return at value) ≡ Return at (optional value)
+sta_return at value = ap sta (sym (stmt.rolls-Return at value)) ∙ fold-roll-Stmt (Sta path.Path) stmt_step (Stmt-F.Return at value)
 
 pub sta_eval : (value : Expr) → sta (stmt.Eval value) ≡ Eval (exp value)
-sta_eval value = ap sta (sym (stmt.rolls-Eval value)) ∙ fold-roll-Stmt Sta stmt_step (Stmt-F.Eval value)
+sta_eval value = ap sta (sym (stmt.rolls-Eval value)) ∙ fold-roll-Stmt (Sta path.Path) stmt_step (Stmt-F.Eval value)
 
 pub sta_print : (value : Expr) → sta (stmt.Print value) ≡ Print (exp value)
-sta_print value = ap sta (sym (stmt.rolls-Print value)) ∙ fold-roll-Stmt Sta stmt_step (Stmt-F.Print value)
+sta_print value = ap sta (sym (stmt.rolls-Print value)) ∙ fold-roll-Stmt (Sta path.Path) stmt_step (Stmt-F.Print value)
 
 pub sta_while : (cond : Expr) (body : List Stmt) → sta (stmt.While cond body) ≡ While (exp cond) (statements body)
 sta_while cond body =
-    ap sta (sym (stmt.rolls-While cond body)) ∙ fold-roll-Stmt Sta stmt_step (Stmt-F.While cond body) ∙ ap (While (exp cond)) (statements_map body)
+    ap sta (sym (stmt.rolls-While cond body)) ∙ fold-roll-Stmt (Sta path.Path) stmt_step (Stmt-F.While cond body) ∙ ap (While (exp cond)) (statements_map body)
 
 choices_none : (cs : List (Expr × List Stmt)) → arms (arms_of (map (λ a. (a.0, map sta a.1)) cs)) None ≡ choices cs None
 choices_none [] = refl
@@ -103,8 +103,8 @@ choices_some [] body = ap Else (statements_map body)
 choices_some (a ∷ more) body = cc (statements_map a.1, choices_some more body)
 
 pub sta_if : (cs : List (Expr × List Stmt)) (other : Option (List Stmt)) → sta (stmt.If cs other) ≡ If (choices cs other)
-sta_if cs None = ap sta (sym (stmt.rolls-If cs None)) ∙ fold-roll-Stmt Sta stmt_step (Stmt-F.If cs None) ∙ ap If (choices_none cs)
-sta_if cs (Some body) = ap sta (sym (stmt.rolls-If cs (Some body))) ∙ fold-roll-Stmt Sta stmt_step (Stmt-F.If cs (Some body)) ∙ ap If (choices_some cs body)
+sta_if cs None = ap sta (sym (stmt.rolls-If cs None)) ∙ fold-roll-Stmt (Sta path.Path) stmt_step (Stmt-F.If cs None) ∙ ap If (choices_none cs)
+sta_if cs (Some body) = ap sta (sym (stmt.rolls-If cs (Some body))) ∙ fold-roll-Stmt (Sta path.Path) stmt_step (Stmt-F.If cs (Some body)) ∙ ap If (choices_some cs body)
 
 pub ruleset plain = (exp_number, exp_truth, exp_path, exp_call, exp_group, exp_unary, exp_arith, exp_compare, exp_and, exp_or, sta_let, sta_assign, sta_return, sta_eval, sta_print, sta_while, sta_if)
 
@@ -162,7 +162,7 @@ is_let s mutable at name typ value is = ap sta is ∙ sta_let mutable at name ty
 pub is_assign : (s : Stmt) (at : At) (name : List ℕ) (value : Expr) → s ≡ stmt.Assign at name value → sta s ≡ Assign at name (exp value)
 is_assign s at name value is = ap sta is ∙ sta_assign at name value
 
-pub is_return : (s : Stmt) (at : At) (value : Option Expr) → s ≡ stmt.Return at value → sta s ≡ Return at (value_of value)
+pub is_return : (s : Stmt) (at : At) (value : Option Expr) → s ≡ stmt.Return at value → sta s ≡ Return at (optional value)
 is_return s at value is = ap sta is ∙ sta_return at value
 
 pub is_eval : (s : Stmt) (value : Expr) → s ≡ stmt.Eval value → sta s ≡ Eval (exp value)
@@ -180,14 +180,14 @@ is_if s cs other is = ap sta is ∙ sta_if cs other
 pub is_const : (b : Body) (typ : Typ) (value : Expr) → b ≡ body.Const typ value → definition b ≡ Const typ (exp value)
 is_const b typ value is = ap definition is
 
-pub is_func : (b : Body) (inlined : Bool) (params : List Param) (gives : Typ) (stmts : List Stmt) (tail : Option Expr) → b ≡ body.Func inlined params gives stmts tail → definition b ≡ Func inlined params gives (statements stmts) (value_of tail)
+pub is_func : (b : Body) (inlined : Bool) (params : List Param) (gives : Typ) (stmts : List Stmt) (tail : Option Expr) → b ≡ body.Func inlined params gives stmts tail → definition b ≡ Func inlined params gives (statements stmts) (optional tail)
 is_func b inlined params gives stmts tail is = ap definition is
 
 pub ruleset known_bodies = (is_const, is_func)
 
 pub ruleset known_statements = (is_let, is_assign, is_return, is_eval, is_print, is_while, is_if)
 
-at_step : (x : Form-F (At → Exp) Exp) (at : At) → at_of (form_step x at) ≡ at
+at_step : (x : Form-F (At → Exp path.Path) (Exp path.Path)) (at : At) → at_of (form_step x at) ≡ at
 at_step (Form-F.Number n) at = refl
 at_step (Form-F.Truth b) at = refl
 at_step (Form-F.Path n) at = refl
@@ -201,6 +201,6 @@ at_step (Form-F.Or parts) at = refl
 
 pub at_is : (e : Expr) → at_of (exp e) ≡ e.at
 at_is e =
-    ap at_of (fold_out-Expr (At → Exp) Exp form_step (λ e. e.form e.at) e) ∙
-    ap (λ g. at_of (g e.at)) (fold_out-Form (At → Exp) Exp form_step (λ e. e.form e.at) e.form) ∙
+    ap at_of (fold_out-Expr (At → Exp path.Path) (Exp path.Path) form_step (λ e. e.form e.at) e) ∙
+    ap (λ g. at_of (g e.at)) (fold_out-Form (At → Exp path.Path) (Exp path.Path) form_step (λ e. e.form e.at) e.form) ∙
     at_step _ e.at

@@ -7,3 +7,5 @@ pub mod Forms
 pub mod Fits
 pub mod Readings
 pub mod Mirrors
+pub mod Leaves
+pub mod LeafLaws

@@ -11,7 +11,7 @@ use Rattle.rs_tree.specs.declared.tree.Form.TheVariants as form
 use Rattle.rs_tree.specs.declared.tree.Stmt.{Stmt}
 use Rattle.rs_tree.specs.declared.tree.Stmt.TheVariants as stmt
 use Rattle.rs_tree.specs.Plain.{at_of, Number, Truth, Path, Call, Group, Unary, Arith, Compare, And, Or, exp, expressions, operations}
-use Rattle.rs_tree.specs.Plain.{Let, Assign, Return, Eval, While, If, Print, sta, statements, choices, value_of}
+use Rattle.rs_tree.specs.Plain.{Let, Assign, Return, Eval, While, If, Print, sta, statements, choices, optional}
 
 pub record MirrorsExpressions : Type 0 where
   pub number : (at : At) (n : ℤ) → exp (record { at = at; form = form.Number n }) ≡ Number at n
@@ -29,7 +29,7 @@ pub record MirrorsExpressions : Type 0 where
 pub record MirrorsStatements : Type 0 where
   pub binding : (mutable : Bool) (at : At) (name : List ℕ) (typ : Option Typ) (value : Expr) → sta (stmt.Let mutable at name typ value) ≡ Let mutable at name typ (exp value)
   pub assign : (at : At) (name : List ℕ) (value : Expr) → sta (stmt.Assign at name value) ≡ Assign at name (exp value)
-  pub leave : (at : At) (value : Option Expr) → sta (stmt.Return at value) ≡ Return at (value_of value)
+  pub leave : (at : At) (value : Option Expr) → sta (stmt.Return at value) ≡ Return at (optional value)
   pub eval : (value : Expr) → sta (stmt.Eval value) ≡ Eval (exp value)
   pub loop : (cond : Expr) (body : List Stmt) → sta (stmt.While cond body) ≡ While (exp cond) (statements body)
   pub choice : (cs : List (Expr × List Stmt)) (other : Option (List Stmt)) → sta (stmt.If cs other) ≡ If (choices cs other)

@@ -1,4 +1,5 @@
--- Plain trees: what definitions go over by cases. Each is made of a tree by one fold, and keeps its places and paths.
+-- Plain trees: what definitions go over by cases. `A` is what stands at a path: the mirror of a tree has the path itself,
+-- an answered tree what the path leads to. Each mirror is made of a tree by one fold, and keeps its places and paths.
 use Rattle.std.specs.Prelude.{ℕ, ℤ, Bool, List, [], ◌∷◌, map, Option, Some, None}
 use Rattle.rs_tree.specs.declared.place.At.{At}
 use Rattle.rs_tree.specs.declared.tree.Path as path
@@ -21,76 +22,76 @@ use Rattle.rs_tree.specs.declared.tree.Stmt.TheOpen.{Stmt-F}
 use Rattle.rs_tree.specs.declared.tree.Stmt.TheFolds.{fold-Stmt}
 
 mutual
-  pub data Exp : Type 0 where
-    Number : (at : At) (n : ℤ) → Exp
-    Truth : (at : At) (b : Bool) → Exp
-    Path : (at : At) (path : path.Path) → Exp
-    Call : (at : At) (path : path.Path) (args : Exps) → Exp
-    Group : (at : At) (e : Exp) → Exp
-    Unary : (at : At) (op : UnaryOp) (e : Exp) → Exp
-    Arith : (at : At) (first : Exp) (more : Operands) → Exp
-    Compare : (at : At) (op : CmpOp) (a b : Exp) → Exp
-    And : (at : At) (parts : Exps) → Exp
-    Or : (at : At) (parts : Exps) → Exp
+  pub data Exp (A : Type 0) : Type 0 where
+    Number : (at : At) (n : ℤ) → Exp A
+    Truth : (at : At) (b : Bool) → Exp A
+    Path : (at : At) (path : A) → Exp A
+    Call : (at : At) (path : A) (args : Exps A) → Exp A
+    Group : (at : At) (e : Exp A) → Exp A
+    Unary : (at : At) (op : UnaryOp) (e : Exp A) → Exp A
+    Arith : (at : At) (first : Exp A) (more : Operands A) → Exp A
+    Compare : (at : At) (op : CmpOp) (a b : Exp A) → Exp A
+    And : (at : At) (parts : Exps A) → Exp A
+    Or : (at : At) (parts : Exps A) → Exp A
 
-  pub data Exps : Type 0 where
-    Empty : Exps
-    Of : (e : Exp) (more : Exps) → Exps
+  pub data Exps (A : Type 0) : Type 0 where
+    Empty : Exps A
+    Of : (e : Exp A) (more : Exps A) → Exps A
 
-  pub data Operands : Type 0 where
-    Done : Operands
-    By : (op : ArithOp) (e : Exp) (more : Operands) → Operands
+  pub data Operands (A : Type 0) : Type 0 where
+    Done : Operands A
+    By : (op : ArithOp) (e : Exp A) (more : Operands A) → Operands A
 
 mutual
-  pub data Sta : Type 0 where
-    Let : (mutable : Bool) (at : At) (name : List ℕ) (typ : Option Typ) (value : Exp) → Sta
-    Assign : (at : At) (name : List ℕ) (value : Exp) → Sta
-    Return : (at : At) (value : Option Exp) → Sta
-    Eval : (value : Exp) → Sta
-    While : (cond : Exp) (body : Stas) → Sta
-    If : (arms : Arms) → Sta
-    Print : (value : Exp) → Sta
+  pub data Sta (A : Type 0) : Type 0 where
+    Let : (mutable : Bool) (at : At) (name : List ℕ) (typ : Option Typ) (value : Exp A) → Sta A
+    Assign : (at : At) (name : List ℕ) (value : Exp A) → Sta A
+    Return : (at : At) (value : Option (Exp A)) → Sta A
+    Eval : (value : Exp A) → Sta A
+    While : (cond : Exp A) (body : Stas A) → Sta A
+    If : (arms : Arms A) → Sta A
+    Print : (value : Exp A) → Sta A
 
-  pub data Stas : Type 0 where
-    Empty : Stas
-    Of : (s : Sta) (more : Stas) → Stas
+  pub data Stas (A : Type 0) : Type 0 where
+    Empty : Stas A
+    Of : (s : Sta A) (more : Stas A) → Stas A
 
-  pub data Arms : Type 0 where
-    Bare : Arms
-    Else : (body : Stas) → Arms
-    Arm : (cond : Exp) (body : Stas) (more : Arms) → Arms
+  pub data Arms (A : Type 0) : Type 0 where
+    Bare : Arms A
+    Else : (body : Stas A) → Arms A
+    Arm : (cond : Exp A) (body : Stas A) (more : Arms A) → Arms A
 
 -- what an item defines
-pub data Definition : Type 0 where
-  Const : (typ : Typ) (value : Exp) → Definition
-  Func : (inlined : Bool) (params : List Param) (gives : Typ) (stmts : Stas) (tail : Option Exp) → Definition
+pub data Definition (A : Type 0) : Type 0 where
+  Const : (typ : Typ) (value : Exp A) → Definition A
+  Func : (inlined : Bool) (params : List Param) (gives : Typ) (stmts : Stas A) (tail : Option (Exp A)) → Definition A
 
-pub record PlainItem : Type 0 where
+pub record PlainItem (A : Type 0) : Type 0 where
   pub public : Bool
   pub name : List ℕ
   pub at : At
   pub tokens : List Token
-  pub body : Definition
+  pub body : Definition A
 
-pub record PlainPlaced : Type 0 where
+pub record PlainPlaced (A : Type 0) : Type 0 where
   pub «module» : List ℕ
   pub start : At
-  pub item : PlainItem
+  pub item : PlainItem A
 
-pub record PlainCrate : Type 0 where
+pub record PlainCrate (A : Type 0) : Type 0 where
   pub modules : List (List ℕ)
-  pub items : List PlainPlaced
+  pub items : List (PlainPlaced A)
 
 -- several expressions
-abbrev pub exps : List Exp → Exps
+abbrev pub exps : {A : Type 0} → List (Exp A) → Exps A
 exps [] = Exps.Empty
 exps (e ∷ more) = Exps.Of e (exps more)
 
-abbrev pub operands : List (ArithOp × Exp) → Operands
+abbrev pub operands : {A : Type 0} → List (ArithOp × Exp A) → Operands A
 operands [] = Done
 operands (o ∷ more) = By o.0 o.1 (operands more)
 
-abbrev pub form_step : Form-F (At → Exp) Exp → At → Exp
+abbrev pub form_step : Form-F (At → Exp path.Path) (Exp path.Path) → At → Exp path.Path
 form_step (Form-F.Number n) at = Number at n
 form_step (Form-F.Truth b) at = Truth at b
 form_step (Form-F.Path n) at = Path at n
@@ -102,76 +103,77 @@ form_step (Form-F.Compare op a b) at = Compare at op a b
 form_step (Form-F.And parts) at = And at (exps parts)
 form_step (Form-F.Or parts) at = Or at (exps parts)
 
-abbrev pub exp : Expr → Exp
-exp = fold-Expr (At → Exp) Exp form_step (λ e. e.form e.at)
+abbrev pub exp : Expr → Exp path.Path
+exp = fold-Expr (At → Exp path.Path) (Exp path.Path) form_step (λ e. e.form e.at)
 
-abbrev pub stas : List Sta → Stas
+abbrev pub stas : {A : Type 0} → List (Sta A) → Stas A
 stas [] = Stas.Empty
 stas (s ∷ more) = Stas.Of s (stas more)
 
-abbrev pub arms : List (Exp × Stas) → Option Stas → Arms
+abbrev pub arms : {A : Type 0} → List (Exp A × Stas A) → Option (Stas A) → Arms A
 arms [] None = Bare
 arms [] (Some body) = Else body
 arms (a ∷ more) other = Arm a.0 a.1 (arms more other)
 
-abbrev pub value_of : Option Expr → Option Exp
-value_of None = None
-value_of (Some e) = Some (exp e)
+-- a tree that may be absent
+abbrev pub optional : Option Expr → Option (Exp path.Path)
+optional None = None
+optional (Some e) = Some (exp e)
 
-abbrev pub arms_of : List (Expr × List Sta) → List (Exp × Stas)
+abbrev pub arms_of : List (Expr × List (Sta path.Path)) → List (Exp path.Path × Stas path.Path)
 arms_of [] = []
 arms_of (a ∷ more) = (exp a.0, stas a.1) ∷ arms_of more
 
-abbrev pub other_of : Option (List Sta) → Option Stas
+abbrev pub other_of : {A : Type 0} → Option (List (Sta A)) → Option (Stas A)
 other_of None = None
 other_of (Some body) = Some (stas body)
 
-abbrev pub stmt_step : Stmt-F Sta → Sta
+abbrev pub stmt_step : Stmt-F (Sta path.Path) → Sta path.Path
 stmt_step (Stmt-F.Let mutable at name typ value) = Let mutable at name typ (exp value)
 stmt_step (Stmt-F.Assign at name value) = Assign at name (exp value)
-stmt_step (Stmt-F.Return at value) = Return at (value_of value)
+stmt_step (Stmt-F.Return at value) = Return at (optional value)
 stmt_step (Stmt-F.Eval value) = Eval (exp value)
 stmt_step (Stmt-F.While cond body) = While (exp cond) (stas body)
 stmt_step (Stmt-F.If arms' other) = If (arms (arms_of arms') (other_of other))
 stmt_step (Stmt-F.Print value) = Print (exp value)
 
-abbrev pub sta : Stmt → Sta
-sta = fold-Stmt Sta stmt_step
+abbrev pub sta : Stmt → Sta path.Path
+sta = fold-Stmt (Sta path.Path) stmt_step
 
 -- several trees, plainly
-abbrev pub expressions : List Expr → Exps
+abbrev pub expressions : List Expr → Exps path.Path
 expressions [] = Exps.Empty
 expressions (e ∷ more) = Exps.Of (exp e) (expressions more)
 
-abbrev pub operations : List (ArithOp × Expr) → Operands
+abbrev pub operations : List (ArithOp × Expr) → Operands path.Path
 operations [] = Done
 operations (o ∷ more) = By o.0 (exp o.1) (operations more)
 
-abbrev pub statements : List Stmt → Stas
+abbrev pub statements : List Stmt → Stas path.Path
 statements [] = Stas.Empty
 statements (s ∷ more) = Stas.Of (sta s) (statements more)
 
-abbrev pub choices : List (Expr × List Stmt) → Option (List Stmt) → Arms
+abbrev pub choices : List (Expr × List Stmt) → Option (List Stmt) → Arms path.Path
 choices [] None = Bare
 choices [] (Some body) = Else (statements body)
 choices (a ∷ more) other = Arm (exp a.0) (statements a.1) (choices more other)
 
 -- an item, what it defines, and the items of a crate
-abbrev pub definition : Body → Definition
+abbrev pub definition : Body → Definition path.Path
 definition (body.Const typ value) = Const typ (exp value)
-definition (body.Func inlined params gives stmts tail) = Func inlined params gives (statements stmts) (value_of tail)
+definition (body.Func inlined params gives stmts tail) = Func inlined params gives (statements stmts) (optional tail)
 
-abbrev pub plain_item : Item → PlainItem
+abbrev pub plain_item : Item → PlainItem path.Path
 plain_item item = record { public = item.public; name = item.name; at = item.at; tokens = item.tokens; body = definition item.body }
 
-abbrev pub plain_placed : Placed → PlainPlaced
+abbrev pub plain_placed : Placed → PlainPlaced path.Path
 plain_placed placed = record { «module» = placed.module; start = placed.start; item = plain_item placed.item }
 
-abbrev pub plain_crate : Crate → PlainCrate
+abbrev pub plain_crate : Crate → PlainCrate path.Path
 plain_crate krate = record { modules = krate.modules; items = map plain_placed krate.items }
 
 -- the place of its first byte
-abbrev pub at_of : Exp → At
+abbrev pub at_of : {A : Type 0} → Exp A → At
 at_of (Number at n) = at
 at_of (Truth at b) = at
 at_of (Path at n) = at

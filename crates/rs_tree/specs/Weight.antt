@@ -15,7 +15,7 @@ use Rattle.rs_tree.specs.Plain.{Sta, Stas, Arms, Let, Assign, Return, Eval, Whil
 use Rattle.rs_tree.specs.Equations.{is_while, is_if}
 
 abbrev mutual
-  pub size : Exp → ℕ
+  pub size : {A : Type 0} → Exp A → ℕ
   size (Number at n) = 1
   size (Truth at b) = 1
   size (Path at name) = 1
@@ -27,16 +27,16 @@ abbrev mutual
   size (And at parts) = sizes parts + 3
   size (Or at parts) = sizes parts + 3
 
-  pub sizes : Exps → ℕ
+  pub sizes : {A : Type 0} → Exps A → ℕ
   sizes Exps.Empty = 0
   sizes (Exps.Of e more) = size e + sizes more
 
-  pub sizes_by : Operands → ℕ
+  pub sizes_by : {A : Type 0} → Operands A → ℕ
   sizes_by Done = 0
   sizes_by (By op e more) = size e + sizes_by more
 
 abbrev mutual
-  pub weight : Sta → ℕ
+  pub weight : {A : Type 0} → Sta A → ℕ
   weight (Let mutable at name typ value) = 1
   weight (Assign at name value) = 1
   weight (Return at value) = 1
@@ -45,11 +45,11 @@ abbrev mutual
   weight (If arms) = weight_arms arms + 5
   weight (Print value) = 1
 
-  pub weights : Stas → ℕ
+  pub weights : {A : Type 0} → Stas A → ℕ
   weights Stas.Empty = 0
   weights (Stas.Of s more) = weight s + weights more
 
-  pub weight_arms : Arms → ℕ
+  pub weight_arms : {A : Type 0} → Arms A → ℕ
   weight_arms Bare = 0
   weight_arms (Else body) = weights body
   weight_arms (Arm cond body more) = weights body + weight_arms more

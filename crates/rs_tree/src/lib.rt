@@ -32,7 +32,7 @@ pub use forms::{index_bytes, ir_bytes, item_bytes, sig_bytes};
 pub use index::{Index, IndexItem, Sig};
 pub use ir::{Instr, Ir};
 pub use kind::{Kind, is_token, kind_of};
-pub use laws::{forms_differ, mirrors_differ, mirrors_have_parts};
+pub use laws::{answers_stand_at_leaves, forms_differ, mirrors_differ, mirrors_have_parts};
 pub use place::{At, Place};
 pub use readers::{read_index, read_item, read_sig};
 pub use sign::sign_of;

@@ -1,5 +1,5 @@
 -- What sources and sinks tell, and the counts of their faults.
-use Rattle.std.specs.Prelude.{◌≡◌, ℕ, ◌≤◌, ◌==◌, ◌++◌, Bool, List, Option, Result, OnErr, is_some}
+use Rattle.std.specs.Prelude.{◌≡◌, ℕ, ◌≤◌, ◌==◌, ◌++◌, Bool, List, [], Option, Some, None, Result, OnErr, MatchResult, is_some}
 use Rattle.std.specs.List.{list_any}
 use Rattle.std.specs.Io.KnownBytes.{Appends}
 use Rattle.inc_base.specs.Meters.{ticked}
@@ -16,6 +16,15 @@ pub record HasCause {T E : Type 0} (before now : ℕ) (result : Result T E) : Ty
 -- what tells goes on telling, and what doesn't never begins to
 abbrev pub KeepsTelling : {T : Type 0} → Option T → Option T → Type 0
 KeepsTelling old new = is_some new ≡ is_some old
+
+-- nothing is left: what told that it has bytes is told to have none, and what told nothing tells nothing still
+abbrev pub IsReadOut : Option (List ℕ) → Option (List ℕ) → Type 0
+IsReadOut None new = new ≡ None
+IsReadOut (Some left) new = new ≡ Some []
+
+-- A count of faults after a call: it rose by one where the call failed, and stays where it didn't, up to the end of `u64`.
+abbrev pub CountsFault : {T E : Type 0} → ℕ → ℕ → Result T E → Type 0
+CountsFault before now result = MatchResult result (λ _. now ≡ before) (λ _. now ≡ ticked before)
 
 -- a front of these bytes was appended
 pub record AppendsFront (old new : Option (List ℕ)) (bytes : List ℕ) : Type 0 where

@@ -2,6 +2,7 @@ ghost use Rattle.std.specs.Prelude.{◌≡◌, IfOk};
 ghost use Rattle.std.proofs.Common.{rules};
 
 use crate::memory::Memory;
+use std::alloc::{AllocError, Global};
 
 /// Data that can be copied.
 ///
@@ -15,27 +16,63 @@ pub trait Copied: Clone {
         Ok(self.clone()?)
     }
 
+    /// Copies of all elements in their order, which equal them by the law. Plain numbers are copied as one
+    /// block.
+    fn copy_all(alloc: Global, items: &[Self]) -> Result<Vec<Self>, AllocError>
+        ensures { IfOk result (λ copies. ((x y : Self) → Self.is_clone x y → y ≡ x) → copies.items ≡ items.now) }
+    {
+        Vec::from_clones(alloc, items)
+    }
+
     ghost same: { (x y : Self) → Self.is_clone x y → y ≡ x };
 }
 
 impl Copied for u8 {
     ghost same = { Prim.search rules };
+
+    fn copy_all(alloc: Global, items: &[u8]) -> Result<Vec<u8>, AllocError> {
+        Vec::from_slice(alloc, items)
+    }
 }
 
 impl Copied for u16 {
     ghost same = { Prim.search rules };
+
+    fn copy_all(alloc: Global, items: &[u16]) -> Result<Vec<u16>, AllocError> {
+        Vec::from_slice(alloc, items)
+    }
 }
 
 impl Copied for u32 {
     ghost same = { Prim.search rules };
+
+    fn copy_all(alloc: Global, items: &[u32]) -> Result<Vec<u32>, AllocError> {
+        Vec::from_slice(alloc, items)
+    }
 }
 
 impl Copied for u64 {
     ghost same = { Prim.search rules };
+
+    fn copy_all(alloc: Global, items: &[u64]) -> Result<Vec<u64>, AllocError> {
+        Vec::from_slice(alloc, items)
+    }
+}
+
+impl Copied for u128 {
+    ghost same = { Prim.search rules };
+
+    fn copy_all(alloc: Global, items: &[u128]) -> Result<Vec<u128>, AllocError> {
+        Vec::from_slice(alloc, items)
+    }
 }
 
 impl Copied for bool {
     ghost same = { Prim.search rules };
+
+    fn copy_all(alloc: Global, items: &[bool]) -> Result<Vec<bool>, AllocError> {
+        Vec::from_slice(alloc, items)
+    }
 }
 
 impl<A: Copied, B: Copied> Copied for (A, B) {

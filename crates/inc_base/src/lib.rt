@@ -18,8 +18,6 @@ mod outside;
 mod read;
 mod roomy;
 mod stdio;
-#[cfg(test)]
-mod tests;
 
 pub use base36::{from36, from36_wide, to36, to36_wide};
 pub use copied::Copied;
@@ -28,7 +26,7 @@ pub use label::{Label, Name};
 pub use list::{Bytes, List, MOST};
 pub use mem::{MemSink, MemSource};
 pub use memory::Memory;
-pub use meter::Meter;
+pub use meter::{Meter, rises_add_up};
 pub use outside::{Failed, Sink, Source, write_all};
 pub use read::{ReadFault, read_to};
 pub use roomy::Roomy;

@@ -1,10 +1,12 @@
 ghost use Rattle.std.specs.Fn.{CalledAt};
 ghost use Rattle.std.specs.List.Retain.{IsFiltered};
+ghost use Rattle.std.specs.Cmp.Lexicographic.{pointwise, slice_cmp, slice_partial_cmp, lists_per, lists_equiv, lists_po, lists_total, lists_agrees, lists_ties};
 ghost use Rattle.std.specs.Prelude.{◌≡◌, ◌+◌, ◌<◌, ◌≤◌, ◌^◌, [], ◌∷◌, ◌++◌, length, List, IfOk, OnOk, OnErr, IsTrue, ◌↔◌};
 
 use crate::copied::Copied;
 use crate::memory::Memory;
 use std::alloc::{AllocError, Global};
+use std::cmp::Ordering;
 use std::marker::Model;
 
 /// The most elements of a list, so that a count of them fits the `u32` of a byte form.
@@ -59,12 +61,21 @@ impl<T> List<T> {
         self.items.len()
     }
 
-    /// A list of a vector's elements, which are few enough.
-    pub(crate) fn of_few(items: Vec<T>) -> List<T>
+    /// A list of a vector's elements, which are at most `MOST`.
+    pub fn from_vec(items: Vec<T>) -> List<T>
         requires { length items.items < 2 ^ 32 }
         ensures { result ≡ items.items }
     {
         List { items }
+    }
+
+    /// Its elements as a vector, to be gone over by value. It takes no memory.
+    pub fn into_vec(self) -> Vec<T>
+        ensures value { result.items ≡ self }
+        ensures few { length result.items < 2 ^ 32 }
+    {
+        let List { items } = self;
+        items
     }
 
     /// Whether it has no element.
@@ -103,9 +114,24 @@ impl<T: Drop> List<T> {
         self.items.retain(f);
     }
 
-    /// Takes the last element away.
+    /// Adds the elements of another list at the end. `Memory` leaves the list as it was, with the other one
+    /// gone, and also comes where it has no room left for them.
+    pub fn append_list(&mut self, other: List<T>) -> Result<(), Memory>
+        ensures ok { OnOk result (self.new ≡ self.old ++ other) }
+        ensures err { OnErr result (self.new ≡ self.old) }
+    {
+        let mut more = other.into_vec();
+        if more.len() > MOST - self.items.len() {
+            return Err(Memory);
+        }
+        self.items.append(&mut more)?;
+        Ok(())
+    }
+
+    /// Takes the last element away, where there is one.
     pub fn drop_last(&mut self)
-        ensures { (front : List T) (last : T) → self.old ≡ front ++ last ∷ [] → self.new ≡ front }
+        ensures last { (front : List T) (last : T) → self.old ≡ front ++ last ∷ [] → self.new ≡ front }
+        ensures empty { self.old ≡ [] → self.new ≡ [] }
     {
         let _ = self.items.pop();
     }
@@ -125,7 +151,7 @@ impl<T: Copied> Clone for List<T> {
 
     fn clone(&self) -> Result<List<T>, AllocError> {
         Ok(List {
-            items: copies(self.allocator(), self.as_slice())?,
+            items: T::copy_all(self.allocator(), self.as_slice())?,
         })
     }
 }
@@ -134,14 +160,43 @@ impl<T: Copied> Copied for List<T> {
     ghost same = { λ x y e. e };
 }
 
-fn copies<T: Copied>(alloc: Global, items: &[T]) -> Result<Vec<T>, AllocError>
-    ensures { IfOk result (λ v. v.items ≡ items.now) }
-{
-    let mut copies = Vec::new(alloc);
-    for item in items {
-        copies.push(item.clone()?)?;
+impl<T: PartialEq> PartialEq for List<T> {
+    ghost eq = { pointwise T.eq };
+
+    ghost laws = { lists_per T.laws };
+
+    fn eq(&self, other: &List<T>) -> bool {
+        self.as_slice() == other.as_slice()
     }
-    Ok(copies)
+}
+
+impl<T: Eq> Eq for List<T> {
+    ghost laws = { lists_equiv T.Eq.laws };
+}
+
+impl<T: PartialOrd> PartialOrd for List<T> {
+    ghost partial_cmp = { slice_partial_cmp T.partial_cmp };
+
+    ghost laws = { lists_po T.PartialOrd.laws };
+
+    fn partial_cmp(&self, other: &List<T>) -> Option<Ordering> {
+        self.as_slice().partial_cmp(other.as_slice())
+    }
+}
+
+/// The first elements that differ decide, and where there are none the shorter list comes first.
+impl<T: Ord> Ord for List<T> {
+    ghost cmp = { slice_cmp T.cmp };
+
+    ghost total = { lists_total T.total };
+
+    ghost matches_partial_cmp = { lists_agrees T.matches_partial_cmp };
+
+    ghost matches_eq = { lists_ties T.cmp T.matches_eq };
+
+    fn cmp(&self, other: &List<T>) -> Ordering {
+        self.as_slice().cmp(other.as_slice())
+    }
 }
 
 impl List<u8> {

@@ -1,5 +1,5 @@
-ghost use Rattle.std.specs.Prelude.{◌≡◌};
-ghost use Rattle.inc_base.specs.Meters.{ticked};
+ghost use Rattle.std.specs.Prelude.{◌≡◌, ◌+◌, ◌<◌, ◌^◌, ℕ};
+ghost use Rattle.inc_base.specs.Meters.{ticked, raised};
 
 use std::marker::Model;
 
@@ -39,3 +39,10 @@ impl Meter {
         self.count
     }
 }
+
+/// Rises of a count add up, and a rise by one is a tick.
+pub fn rises_add_up()
+    ensures none { (count : ℕ) → raised count 0 ≡ count }
+    ensures more { (count m n : ℕ) → raised (raised count m) n ≡ raised count (m + n) }
+    ensures one { (count : ℕ) → count < 2 ^ 64 → raised count 1 ≡ ticked count }
+{}

@@ -1,6 +1,6 @@
 ghost use Rattle.std.specs.Prelude.{◌≡◌, ◌+◌, ◌<◌, ◌≤◌, ◌^◌, length, take, Err, IfOk};
 ghost use Rattle.std.specs.Io.KnownBytes.{Consumes, IsAtEnd};
-ghost use Rattle.inc_base.specs.Outside.{KeepsTelling, Rose};
+ghost use Rattle.inc_base.specs.Outside.{IsReadOut, KeepsTelling, Rose};
 ghost use Rattle.inc_base.specs.declared.read.ReadFault.TheVariants.{Source as SourceFailed, Memory as NoMemory};
 
 use crate::list::Bytes;
@@ -41,12 +41,13 @@ impl From<Memory> for ReadFault {
 
 /// Reads a source to its end, or until it gave one byte more than `limit`.
 ///
-/// So of an answer that is longer than `limit` it is known only that the source has too many bytes. After
-/// a fault the bytes that were read are gone. `ReadFault::Source` comes only where the source's count rose.
+/// So of an answer that is longer than `limit` it is known only that the source has too many bytes, and after
+/// another one a source that tells is told to be empty. After a fault the bytes that were read are gone. `ReadFault::Source` comes only where the source's count rose.
 pub fn read_to<S: Source>(alloc: Global, src: &mut S, limit: usize) -> Result<Bytes, ReadFault>
     requires { limit < 2 ^ 32 }
     ensures ok { IfOk result (λ bytes. Consumes (S.left src.old) (S.left src.new) bytes) }
     ensures end { IfOk result (λ bytes. length bytes ≤ limit → IsAtEnd (S.left src.new)) }
+    ensures emptied { IfOk result (λ bytes. length bytes ≤ limit → IsReadOut (S.left src.old) (S.left src.new)) }
     ensures few { IfOk result (λ bytes. length bytes ≤ limit + 1) }
     ensures tells { KeepsTelling (S.left src.old) (S.left src.new) }
     ensures faults { S.faults src.old ≤ S.faults src.new }

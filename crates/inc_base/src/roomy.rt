@@ -86,6 +86,6 @@ impl<T: Drop> Roomy<T> {
         ensures { result ≡ self.0 }
     {
         let Roomy { items, room: _ } = self;
-        List::of_few(items)
+        List::from_vec(items)
     }
 }

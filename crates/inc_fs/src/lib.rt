@@ -13,8 +13,6 @@ pub mod laws;
 mod op;
 mod state;
 mod table;
-#[cfg(test)]
-mod tests;
 
 pub use fs::Fs;
 pub use kinds::is_kind_of;

@@ -10,8 +10,6 @@ mod laws;
 mod order;
 mod read;
 mod session;
-#[cfg(test)]
-mod tests;
 mod write;
 
 pub use entry::Entry;

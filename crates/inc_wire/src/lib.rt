@@ -11,8 +11,6 @@ mod laws;
 mod print;
 mod put;
 mod take;
-#[cfg(test)]
-mod tests;
 
 pub use cursor::Cursor;
 pub use header::Header;

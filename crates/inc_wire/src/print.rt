@@ -1,17 +1,22 @@
 ghost use Rattle.std.specs.Prelude.{◌≡◌, ◌++◌, IfOk};
+ghost use Rattle.std.proofs.Common.{rules};
 ghost use Rattle.byteorder.specs.Endian.{big_number};
 ghost use Rattle.sha2.specs.Sha256.{sha256};
 ghost use Rattle.inc_wire.specs.Forms.{job_hash_of};
 
 use crate::put::fields;
 use byteorder::{BigEndian, ByteOrder};
-use inc_base::{Job, Memory};
+use inc_base::{Copied, Job, Memory};
 use sha2::{Digest, Sha256};
 use std::alloc::Global;
 
 /// A fingerprint: the SHA-256 of bytes.
 #[derive(Clone, Copy, Debug, PartialEq, Eq)]
 pub struct Print(pub [u8; 32]);
+
+impl Copied for Print {
+    ghost same = { Prim.search rules };
+}
 
 /// The print of bytes.
 pub fn print_of(b: &[u8]) -> Print

@@ -13,4 +13,4 @@ dropped front (w ∷ x ∷ y ∷ z ∷ u ∷ more) a b c d e count is p q r s = 
 
 pub returns : goal.returns
 returns c = λ front four count is.
-    dropped front four c.args.to.now _ _ _ _ count is c.drop_last.ensures c.drop_last-2.ensures c.drop_last-3.ensures c.drop_last-4.ensures
+    dropped front four c.args.to.now _ _ _ _ count is c.drop_last.ensures.last c.drop_last-2.ensures.last c.drop_last-3.ensures.last c.drop_last-4.ensures.last

@@ -1,9 +1,9 @@
 mod ask;
 mod plain;
 
-use crate::{Chance, Fs, is_kind_of};
 use ask::{Ask, op_of, shown};
 use inc_base::Copied;
+use inc_fs::{Chance, Fs, is_kind_of};
 use plain::Plain;
 use rand_core::Rng;
 use rand_pcg::Pcg32;

@@ -1,5 +1,5 @@
-use crate::{Op, Reply};
 use inc_base::{Bytes, Label};
+use inc_fs::{Op, Reply};
 use std::alloc::Global;
 use std::test::Fail;
 

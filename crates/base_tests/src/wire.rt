@@ -1,4 +1,4 @@
-use crate::{
+use inc_wire::{
     Cursor, Header, Print, forms_differ, job_hash, print_of, put_header, put_number, put_text,
     take_header,
 };

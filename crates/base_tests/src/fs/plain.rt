@@ -1,8 +1,8 @@
 //! The table as a plain program over lists, searched from the front.
 
 use super::ask::Ask;
-use crate::{Chance, Reply};
 use inc_base::{Bytes, Label, List};
+use inc_fs::{Chance, Reply};
 use std::alloc::Global;
 use std::test::Fail;
 

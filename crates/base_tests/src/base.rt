@@ -1,4 +1,4 @@
-use crate::{
+use inc_base::{
     Bytes, Compiler, Copied, Failed, Job, Label, List, MemSink, MemSource, Meter, Name, ReadFault,
     Roomy, Sink, Source, StdSink, StdSource, VERSION, from36, from36_wide, read_to, to36,
     to36_wide, write_all,

@@ -1,56 +1,13 @@
-use crate::{
+use inc_base::{Copied, Label, List, Name};
+use inc_names::{
     Entry, SessionName, crate_dir, entries_differ, entry_text, names_are_ordered, newer, read_entry,
 };
-use inc_base::{Label, Name, from36, from36_wide, to36, to36_wide};
 use std::test::Fail;
 
 const SESSION: SessionName = SessionName {
     moment: 35,
     random: 0,
 };
-
-#[test]
-fn base_36(rt: HostRuntime) -> Result<(), Fail> {
-    let rows: [(u128, &[u8]); 7] = [
-        (0, b"0"),
-        (35, b"z"),
-        (36, b"10"),
-        (4_294_967_295, b"1z141z3"),
-        (18_446_744_073_709_551_615, b"3w5e11264sgsf"),
-        (86_400_000_000, b"13owbuo0"),
-        (u128::MAX, b"f5lxx1zz5pnorynqglhzmsp33"),
-    ];
-    for (number, text) in rows {
-        assert_eq!(rt; to36(rt.alloc(), number)?.as_slice(), text);
-        assert_eq!(rt; from36(text), Some(number));
-    }
-    let refused: [&[u8]; 4] = [b"", b"00", b"Z", b"f5lxx1zz5pnorynqglhzmsp34"];
-    for text in refused {
-        assert_eq!(rt; from36(text), None);
-    }
-    Ok(())
-}
-
-#[test]
-fn base_36_wide(rt: HostRuntime) -> Result<(), Fail> {
-    let rows: [(u128, &[u8]); 2] = [
-        (1, b"0000000000000000000000001"),
-        (u128::MAX, b"f5lxx1zz5pnorynqglhzmsp33"),
-    ];
-    for (number, text) in rows {
-        assert_eq!(rt; to36_wide(rt.alloc(), number)?.as_slice(), text);
-        assert_eq!(rt; from36_wide(text), Some(number));
-    }
-    let refused: [&[u8]; 3] = [
-        b"1",
-        b"00000000000000000000000001",
-        b"f5lxx1zz5pnorynqglhzmsp34",
-    ];
-    for text in refused {
-        assert_eq!(rt; from36_wide(text), None);
-    }
-    Ok(())
-}
 
 #[test]
 fn entries(rt: HostRuntime) -> Result<(), Fail> {

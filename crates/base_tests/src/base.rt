@@ -1,8 +1,9 @@
 use inc_base::{
     Bytes, Compiler, Copied, Failed, Job, Label, List, MemSink, MemSource, Meter, Name, ReadFault,
-    Roomy, Sink, Source, StdSink, StdSource, VERSION, from36, from36_wide, read_to, to36,
-    to36_wide, write_all,
+    Roomy, Sink, Source, StdSink, StdSource, VERSION, from36, from36_wide, read_to, rises_add_up,
+    to36, to36_wide, write_all,
 };
+use std::collections::BTreeMap;
 use std::fs::File;
 use std::test::Fail;
 
@@ -125,6 +126,23 @@ fn sinks_in_memory_fail_where_listed(rt: HostRuntime) -> Result<(), Fail> {
 }
 
 #[test]
+fn lists_are_ordered_and_joined(rt: HostRuntime) -> Result<(), Fail> {
+    let alloc = rt.alloc();
+    let mut list = Bytes::of(alloc, b"ab")?;
+    list.append_list(Bytes::of(alloc, b"c")?)?;
+    assert!(rt; Bytes::of(alloc, b"ab")? < list);
+    let mut counts = BTreeMap::new(alloc);
+    counts.insert(list.copy()?, 3u8)?;
+    assert_eq!(rt; counts.get(&list).copied(), Some(3));
+    list.drop_last();
+    assert_eq!(rt;
+        List::from_vec(list.into_vec()).as_slice(),
+        b"ab".as_slice()
+    );
+    Ok(())
+}
+
+#[test]
 fn jobs_meters_and_lists(rt: HostRuntime) -> Result<(), Fail> {
     let alloc = rt.alloc();
     let Some(krate) = Name::of(alloc, b"k")? else {
@@ -145,6 +163,7 @@ fn jobs_meters_and_lists(rt: HostRuntime) -> Result<(), Fail> {
     assert_eq!(rt; copy.text.as_slice(), b"text".as_slice());
     let mut meter = Meter::new();
     meter.tick();
+    rises_add_up();
     assert_eq!(rt; meter.count(), 1);
     let mut roomy = Roomy::new(alloc);
     roomy.make_room(2)?;

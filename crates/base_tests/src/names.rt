@@ -39,7 +39,9 @@ fn order_and_labels(rt: HostRuntime) -> Result<(), Fail> {
     assert!(rt; newer(later, SESSION));
     assert!(rt; !newer(SESSION, later));
     names_are_ordered();
-    assert!(rt; Label::of(rt.alloc(), b"a/b")?.is_none());
+    let mut names = List::new(rt.alloc());
+    names.push(SESSION)?;
+    assert_eq!(rt; names.copy()?.as_slice(), [SESSION].as_slice());
     let name = Name::of(rt.alloc(), b"k")?.ok_or("no name")?;
     assert_eq!(rt; name.bytes(), b"k".as_slice());
     assert_eq!(rt; crate_dir(rt.alloc(), &name)?.bytes(), b"k".as_slice());

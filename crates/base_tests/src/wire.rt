@@ -1,8 +1,8 @@
+use inc_base::{Bytes, Compiler, Copied, Job, List, Name};
 use inc_wire::{
     Cursor, Header, Print, forms_differ, job_hash, print_of, put_header, put_number, put_text,
     take_header,
 };
-use inc_base::{Bytes, Compiler, Copied, Job, List, Name};
 use std::test::Fail;
 
 /// The crate `k`, or a failure.

@@ -12,3 +12,4 @@ pub mod Tidy
 pub mod Changes
 pub mod Steps
 pub mod Ending
+pub mod Sound

@@ -17,6 +17,7 @@ ghost use Rattle.inc_fs.specs.Kinds.{IsKindOf};
 ghost use Rattle.inc_fs.specs.Points.{with_at, put_at};
 ghost use Rattle.inc_fs.specs.Readings.{bytes_of, locks_of, held_in};
 ghost use Rattle.inc_fs.specs.Tidy.{IsTidy};
+ghost use Rattle.inc_fs.specs.Sound.{IsSound};
 ghost use Rattle.inc_fs.specs.Steps.{ChangedBy};
 ghost use Rattle.inc_fs.specs.Ending.{Ended};
 
@@ -93,4 +94,12 @@ pub fn locks_change_for_one_handle()
 /// What a listing of a crate directory names stands in it.
 pub fn listed_entries_stand()
     ensures { (krate entry : Text) (entries : List (Path × Entry)) → IsIn (listed krate entries) entry → IsSome (lookup (is_at (path_cmp (krate, entry))) entries) }
+{}
+
+/// The empty directory is sound, and steps and endings keep a directory sound: it is tidy, each holder of a
+/// lock is a handle that was given, and a shared lock has a holder.
+pub fn directories_stay_sound()
+    ensures start { IsSound start }
+    ensures step { (F G : State) (who : ℕ) (op : Op) (reply : Reply) → IsSound F → Step F who op reply G → IsSound G }
+    ensures ending { (F : State) (who : ℕ) → IsSound F → IsSound (end_of F who) }
 {}

@@ -88,6 +88,11 @@ same_wide h k h_small k_small same =
     let other : SpellsWide36 (wide36 h) k = subst (λ t. SpellsWide36 t k) (sym same) (wide36_spells k k_small) in
     same_wide_number36 (wide36_spells h h_small) other
 
+-- the session of a finalised directory is seen from its text, whatever the numbers of the two hashes
+pub same_final_name : (m n : SessionName) (h k : ℕ) → final_text m h ≡ final_text n k → m ≡ n
+same_final_name m n h k same =
+    (same_stem m n (codes "-" ++ wide36 h) (codes "-" ++ wide36 k) refl refl (sym (final_text-parts m h) ∙ same ∙ final_text-parts n k)).0
+
 pub same_final_text : (m n : SessionName) (h k : ℕ) → h < 2 ^ 128 → k < 2 ^ 128 → final_text m h ≡ final_text n k → (m ≡ n) × (h ≡ k)
 same_final_text m n h k h_small k_small same =
     let parts = same_stem m n (codes "-" ++ wide36 h) (codes "-" ++ wide36 k) refl refl (sym (final_text-parts m h) ∙ same ∙ final_text-parts n k) in

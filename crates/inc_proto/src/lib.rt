@@ -9,4 +9,7 @@ mod event;
 mod laws;
 
 pub use event::{Event, History};
-pub use laws::{growing_keeps_possible, growing_tells_steps};
+pub use laws::{
+    growing_keeps_possible, growing_tells_steps, histories_lead_on, own_events_tell_all,
+    sessions_begin_first,
+};

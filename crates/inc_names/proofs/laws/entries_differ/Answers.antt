@@ -1,4 +1,4 @@
-use Rattle.inc_names.specs.EntryLaws.{entry_is_label, same_entry, lock_is_no_working, lock_is_no_final, working_is_no_final}
+use Rattle.inc_names.specs.EntryLaws.{entry_is_label, same_entry, lock_is_no_working, lock_is_no_final, working_is_no_final, same_final_name}
 use Rattle.inc_names.proofs.laws.entries_differ.Goals as goal
 
 pub returns : goal.returns
@@ -8,4 +8,5 @@ returns c = record {
   lock_working = lock_is_no_working;
   lock_final = lock_is_no_final;
   working_final = working_is_no_final;
+  same_final = same_final_name;
 }

@@ -1,4 +1,5 @@
--- Who holds the locks of a directory that a history leads to: handles that were given.
+-- What each state is like that steps and endings lead to from the empty one: it is tidy, and who holds a lock is a handle
+-- that was given.
 use Rattle.std.specs.Prelude.{◌≡◌, ◌≢◌, ℕ, zero, suc, ◌==◌, ◌++◌, List, [], ◌∷◌, Bool, true, false, not, cond, filter, map, refl, Option, Some, None, slice_get, slice_set, take}
 use Rattle.std.specs.List.{AllByRecursion}
 use Rattle.std.proofs.Common.{sym, subst, inr}
@@ -16,9 +17,6 @@ use Rattle.inc_fs.specs.Step.{Step, cut_short}
 use Rattle.inc_fs.specs.Steps.{step_changes}
 use Rattle.inc_fs.specs.Ending.{end_tidy}
 use Rattle.inc_fs.specs.Tidy.{IsTidy, start_tidy}
-use Rattle.inc_proto.specs.Leads.{LeadsTo, Happens}
-use Rattle.inc_proto.specs.declared.event.Event.{Event}
-use Rattle.inc_proto.specs.declared.event.Event.TheVariants.{Begin, Did, Left}
 
 -- each holder of a lock is one of these handles, and a shared lock has a holder
 abbrev pub IsHeldBy : List ℕ → Lock → Type 0
@@ -182,27 +180,16 @@ step_held F who (Close handle) Done G t held s =
 step_held F who (Close handle) Missing G t held s = subst AllHeld (sym s.1) held
 step_held F who op reply G t held s = absurd s
 
--- ---- The states that a history leads to.
+-- ---- What steps and endings keep.
 
 pub step_sound : (F : State) (who : ℕ) (op : Op) (reply : Reply) (G : State) → Step F who op reply G → IsSound F → IsSound G
 step_sound F who op reply G s f = record { tidy = (step_changes F who op reply G s).tidy f.tidy; held = step_held F who op reply G f.tidy f.held s }
 
-end_sound : (F : State) (who : ℕ) → IsSound F → IsSound (end_of F who)
+pub end_sound : (F : State) (who : ℕ) → IsSound F → IsSound (end_of F who)
 end_sound F who f = record {
   tidy = end_tidy F who f.tidy;
   held = all_mapped (λ file. IsHeldBy F.given file.lock) (released_file F.handles who) (λ file held. released_held F.handles who F.given file.lock held) F.files f.held;
 }
 
-start_sound : IsSound start
+pub start_sound : IsSound start
 start_sound = record { tidy = start_tidy; held = tt }
-
-event_sound : (events : List Event) (F : State) (event : Event) (G : State) → Happens events F event G → IsSound F → IsSound G
-event_sound events F (Begin number job) G is f = subst IsSound (sym is.1) f
-event_sound events F (Did number op reply) G is f = step_sound F number op reply G is f
-event_sound events F (Left number None cut) G is f = subst IsSound (sym is) (end_sound F number f)
-event_sound events F (Left number (Some op) cut) G is f = subst IsSound (sym is) (end_sound (cut_short F op cut) number (step_sound F number op Fault (cut_short F op cut) (cut, refl) f))
-
--- a state that a history leads to
-pub leads_sound : (events : List Event) (G : State) → LeadsTo events G → IsSound G
-leads_sound [] G is = subst IsSound (sym is) start_sound
-leads_sound (event ∷ events) G (F, leads, is) = event_sound events F event G is (leads_sound events F leads)

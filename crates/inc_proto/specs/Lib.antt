@@ -4,3 +4,9 @@ pub mod EventLaws
 pub mod LeadLaws
 pub mod Growth
 pub mod GrowthLaws
+pub mod Files
+pub mod Views
+pub mod Permits
+pub mod Legal
+pub mod Seen
+pub mod Grounds

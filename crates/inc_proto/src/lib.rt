@@ -1,15 +1,26 @@
-//! The history of a directory: what sessions did, in one order, and what it says of each of them.
+//! The history of a directory: what sessions did, in one order, what it says of each of them, and what a
+//! session may do.
 //!
-//! `inc_base` and `inc_fs` stand below. An `Event` is the beginning of a session, one of its steps with
-//! the reply, or its leaving. Open `specs/Events.antt` first, for what a history says of a session, and
-//! then `specs/Leads.antt`, for the states that a history leads to and the ways in which one grows.
+//! `inc_base`, `inc_fs`, `inc_names` and `inc_wire` stand below. An `Event` is the beginning of a session,
+//! one of its steps with the reply, or its leaving. A `Ground` is a directory in memory with its legal
+//! history, and a `View` is what one session sees of it. Open `specs/Events.antt` first, for what a history
+//! says of a session, then `specs/Permits.antt`, for what a session may do, and `specs/Legal.antt`.
 #![tactic(auto)]
 
+mod content;
+mod enrolled;
 mod event;
+mod ground;
 mod laws;
+mod own;
+mod view;
 
+pub use content::Content;
 pub use event::{Event, History};
+pub use ground::Ground;
 pub use laws::{
     growing_keeps_possible, growing_tells_steps, histories_lead_on, own_events_tell_all,
     sessions_begin_first,
 };
+pub use own::{Known, OwnLock};
+pub use view::View;

@@ -1,0 +1,17 @@
+use Rattle.std.proofs.Common.{◌≡◌, ◌∷◌, reverse, ap, ◌∙◌}
+use Rattle.std.proofs.lemmas.List.{reverse-reverse}
+use Rattle.inc_fs.specs.declared.op.Op.{Op}
+use Rattle.inc_fs.specs.declared.op.Reply.{Reply}
+use Rattle.inc_proto.specs.Events.{Steps}
+use Rattle.inc_proto.specs.Seen.{Seen}
+use Rattle.inc_proto.proofs.Turned.{first_is_last, last_is_first}
+use Rattle.inc_proto.proofs.view.View.fill_place.Goals as goal
+
+pub returns : goal.returns
+returns c = λ step steps is.
+    let inside = c.self.inside in
+    let filled : Op × Reply = (c.args.op, c.args.reply) in
+    let was : reverse inside.steps ≡ step ∷ steps = ap (λ v. v.steps) c.self.view_is ∙ is in
+    let now = c.set_last.ensures (reverse steps) step (first_is_last inside.steps step steps was) in
+    let with_steps : Steps → Seen = λ s. record { number = inside.who; job = inside.job; steps = s } in
+    rw (← c.self.view_is) (ap with_steps (ap reverse now ∙ last_is_first (reverse steps) filled ∙ ap (λ s. filled ∷ s) (reverse-reverse steps)))

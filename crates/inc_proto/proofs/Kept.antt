@@ -1,5 +1,5 @@
 -- What a ground keeps, by each of its events.
-use Rattle.std.specs.Prelude.{◌≡◌, ◌≢◌, ◌⊎◌, ◌==◌, ◌<◌, ◌≤◌, ◌+◌, ◌-◌, ◌^◌, reverse, ◌++◌, ℕ, zero, suc, List, [], ◌∷◌, length, Bool, true, false, cond, refl, Option, Some, None, IsSome, slice_get, slice_set, count_by, sum_by, unwrap_or}
+use Rattle.std.specs.Prelude.{◌≡◌, ◌≢◌, ◌⊎◌, ◌==◌, ◌<◌, ◌≤◌, ◌+◌, ◌-◌, ◌^◌, reverse, ◌++◌, ℕ, zero, suc, List, [], ◌∷◌, length, Bool, true, false, cond, refl, Option, Some, None, IsSome, slice_get, slice_set, unwrap_or}
 use Rattle.std.proofs.Common.{ap, sym, ◌∙◌, subst, inl, inr, eq-eqb, arith, length-append, get_or, lit<}
 use Rattle.std.proofs.lemmas.Bool.{ne_eqb}
 use Rattle.std.proofs.lemmas.Bool.Decides.{eqb_tells}
@@ -16,13 +16,13 @@ use Rattle.inc_fs.specs.declared.op.Reply.TheVariants.{Fault}
 use Rattle.inc_proto.specs.declared.event.Event.{Event}
 use Rattle.inc_proto.specs.declared.event.Event.TheVariants.{Begin, Did, Left}
 use Rattle.inc_proto.specs.declared.enrolled.Enrolled.{Enrolled}
-use Rattle.inc_proto.specs.Events.{begins, is_running, Steps}
+use Rattle.inc_proto.specs.Events.{is_running, job_of, own_steps, Steps}
 use Rattle.inc_proto.specs.Files.{Files}
 use Rattle.inc_proto.specs.Grounds.{Fits, IsKept}
-use Rattle.inc_proto.specs.Leads.{LeadsTo, stopped}
+use Rattle.inc_proto.specs.Leads.{stopped}
 use Rattle.inc_proto.specs.Seen.{Seen}
 use Rattle.inc_proto.proofs.Turned.{last_is_first}
-use Rattle.inc_proto.specs.Legal.{Sight, sight_of, view_of, stepped, running_in, AreAllowed, MaySee, MayDo, MayLeave}
+use Rattle.inc_proto.specs.Legal.{Sight, sighted, sight_of, MaySee, MayDo, MayLeave}
 
 -- ---- Elements by their places.
 
@@ -111,6 +111,16 @@ enrolled_at {ss = ss} {who = who} e d = sym (unwrap_or-slice_get ss who d) ∙ a
 
 -- ---- By event.
 
+-- a step more is seen
+sighted_more : (step : Op × Reply) (job : Option Job) (steps : Steps) (its : Job) (seen : Steps)
+    → sighted job steps ≡ Some (record { job = its; steps = seen }) → sighted job (step ∷ steps) ≡ Some (record { job = its; steps = step ∷ seen })
+sighted_more step None steps its seen is = absurd (cc)
+sighted_more step (Some job) steps its seen is = ap more is
+  where
+    more : Option Sight → Option Sight
+    more None = None
+    more (Some sight) = Some (record { job = sight.job; steps = step ∷ sight.steps })
+
 -- nothing happened
 pub kept_new : (files : Files) → IsKept files [] 0 start [] 0
 kept_new files = record { leads = refl; allowed = tt; numbered = refl; fits = λ who. (refl, refl); running_is = refl; counted = refl; room_is = refl; few = lit< tt }
@@ -127,7 +137,7 @@ kept_began files h room F ss running job small kept =
       allowed = (kept.allowed, tt);
       numbered = length-append ss (new ∷ []) ∙ ap (λ n. n + 1) kept.numbered;
       fits = λ k. subst (λ o. Fits (Begin (length ss) job ∷ h) k o) (sym (push_at ss new k))
-        (each (Begin (length ss) job ∷ h) (length ss) new ss here (λ k off. began_other h (length ss) k job (slice_get ss k) off (kept.fits k)) k);
+          (each (Begin (length ss) job ∷ h) (length ss) new ss here (λ k off. began_other h (length ss) k job (slice_get ss k) off (kept.fits k)) k);
       running_is = ap (λ n. n + 1) kept.running_is;
       counted = ap (λ n. n + 1) kept.counted ∙ sym (sum_by-append (λ one. cond one.runs 1 0) ss (new ∷ []));
       room_is = ap (λ n. n + 1) kept.room_is;
@@ -141,12 +151,12 @@ same_sum e is = omega arith
 pub kept_did : (files : Files) (h : List Event) (room : ℕ) (F G : State) (ss : List Enrolled) (running who : ℕ) (op : Op) (reply : Reply)
     → IsKept files h room F ss running → (e : Enrols ss who) → MayDo files h who op → Step F who op reply G
     → IsKept files (Did who op reply ∷ h) room G
-      (slice_set ss who (record { view = record { number = e.one.view.number; job = e.one.view.job; steps = (op, reply) ∷ e.one.view.steps }; runs = e.one.runs })) running
+    (slice_set ss who (record { view = record { number = e.one.view.number; job = e.one.view.job; steps = (op, reply) ∷ e.one.view.steps }; runs = e.one.runs })) running
 kept_did files h room F G ss running who op reply kept e may step =
     let new : Enrolled = record { view = record { number = e.one.view.number; job = e.one.view.job; steps = (op, reply) ∷ e.one.view.steps }; runs = e.one.runs } in
     let was : Fits h who (Some e.one) = subst (λ o. Fits h who o) e.is (kept.fits who) in
     let itself : who == who ≡ true = eq-eqb who who refl in
-    let sees : stepped op reply (sight_of who h) ≡ Some (record { job = new.view.job; steps = new.view.steps }) = ap (stepped op reply) was.1 in
+    let sees = sighted_more (op, reply) (job_of who h) (own_steps who h) e.one.view.job e.one.view.steps was.1 in
     let here : Fits (Did who op reply ∷ h) who (Some new) = (was.0, rw itself sees, was.2) in
     let sums = sum_by-set (λ one. cond one.runs 1 0) ss who new e.one (enrolled_within e) in
     let old : cond (get_or ss who e.one).runs 1 0 ≡ cond e.one.runs 1 0 = ap (λ one. cond one.runs 1 0) (enrolled_at e e.one) in
@@ -155,7 +165,7 @@ kept_did files h room F G ss running who op reply kept e may step =
       allowed = (kept.allowed, may);
       numbered = length-set ss who new ∙ kept.numbered;
       fits = λ k. subst (λ o. Fits (Did who op reply ∷ h) k o) (sym (set_at ss who new (enrolled_within e) k))
-        (each (Did who op reply ∷ h) who new ss here (λ k off. did_other h who k op reply (slice_get ss k) off (kept.fits k)) k);
+          (each (Did who op reply ∷ h) who new ss here (λ k off. did_other h who k op reply (slice_get ss k) off (kept.fits k)) k);
       running_is = kept.running_is;
       counted = kept.counted ∙ same_sum sums old;
       room_is = kept.room_is;
@@ -170,7 +180,7 @@ less e is none counted = (omega arith, omega arith)
 pub kept_left : (files : Files) (h : List Event) (room : ℕ) (F : State) (ss : List Enrolled) (running who : ℕ) (during : Option Op) (cut : ℕ)
     → IsKept files h room F ss running → (e : Enrols ss who) → MayLeave files h who during
     → IsKept files (Left who during cut ∷ h) (room - 1) (end_of (stopped F during cut) who)
-      (slice_set ss who (record { view = e.one.view; runs = false })) (running - 1)
+    (slice_set ss who (record { view = e.one.view; runs = false })) (running - 1)
 kept_left files h room F ss running who during cut kept e may =
     let new : Enrolled = record { view = e.one.view; runs = false } in
     let was : Fits h who (Some e.one) = subst (λ o. Fits h who o) e.is (kept.fits who) in
@@ -183,7 +193,7 @@ kept_left files h room F ss running who during cut kept e may =
       allowed = (kept.allowed, may);
       numbered = length-set ss who new ∙ kept.numbered;
       fits = λ k. subst (λ o. Fits (Left who during cut ∷ h) k o) (sym (set_at ss who new (enrolled_within e) k))
-        (each (Left who during cut ∷ h) who new ss here (λ k off. left_other h who k during cut (slice_get ss k) off (kept.fits k)) k);
+          (each (Left who during cut ∷ h) who new ss here (λ k off. left_other h who k during cut (slice_get ss k) off (kept.fits k)) k);
       running_is = ap (λ n. n - 1) kept.running_is;
       counted = (less sums old refl kept.counted).0;
       room_is = ap (λ n. n - 1) kept.room_is;
@@ -229,9 +239,9 @@ did_as files h h1 room room1 F G ss running who op copy reply seen told one view
     let its : one ≡ e.one = at ∙ enrolled_at e one in
     let back : (room + 1) - 1 ≡ room = omega arith in
     let full : view1 ≡ record { number = one.view.number; job = one.view.job; steps = (op, reply) ∷ one.view.steps } =
-        filled (Draw, Fault) one.view.steps (ap (λ v. v.steps) placed)
-        ∙ ap (λ v. with_steps v.number v.job ((copy, seen) ∷ one.view.steps)) placed
-        ∙ ap (λ s. with_steps one.view.number one.view.job (s ∷ one.view.steps)) (ap (λ o. pair o seen) copy_is ∙ ap (λ r. pair op r) seen_is) in
+    filled (Draw, Fault) one.view.steps (ap (λ v. v.steps) placed)
+    ∙ ap (λ v. with_steps v.number v.job ((copy, seen) ∷ one.view.steps)) placed
+    ∙ ap (λ s. with_steps one.view.number one.view.job (s ∷ one.view.steps)) (ap (λ o. pair o seen) copy_is ∙ ap (λ r. pair op r) seen_is) in
     rw (h_is, room_is, told_is, last_is_first h (Did who op reply), back, full, its)
     (kept_did files (reverse h) room F G ss running who op reply kept e may step)
   where

@@ -1,13 +1,12 @@
 -- Legal histories.
-use Rattle.std.specs.Prelude.{ℕ, ◌+◌, ◌-◌, ◌==◌, if◌then◌else◌, List, [], ◌∷◌, Option, Some, None, IsSome}
+use Rattle.std.specs.Prelude.{ℕ, ◌+◌, ◌-◌, if◌then◌else◌, List, [], ◌∷◌, Option, Some, None, IsSome}
 use Rattle.inc_base.specs.declared.job.Job.{Job}
 use Rattle.inc_fs.specs.State.{State}
 use Rattle.inc_fs.specs.declared.op.Op.{Op}
 use Rattle.inc_fs.specs.declared.op.Op.TheVariants.{Append}
-use Rattle.inc_fs.specs.declared.op.Reply.{Reply}
 use Rattle.inc_proto.specs.declared.event.Event.{Event}
 use Rattle.inc_proto.specs.declared.event.Event.TheVariants.{Begin, Did, Left}
-use Rattle.inc_proto.specs.Events.{Steps, is_running}
+use Rattle.inc_proto.specs.Events.{Steps, is_running, job_of, own_steps}
 use Rattle.inc_proto.specs.Leads.{LeadsTo}
 use Rattle.inc_proto.specs.Files.{Files}
 use Rattle.inc_proto.specs.Permits.{IsPermitted}
@@ -17,16 +16,13 @@ pub record Sight : Type 0 where
   pub job : Job
   pub steps : Steps
 
-abbrev pub stepped : Op → Reply → Option Sight → Option Sight
-stepped op reply None = None
-stepped op reply (Some sight) = Some (record sight { steps = (op, reply) ∷ sight.steps })
+abbrev pub sighted : Option Job → Steps → Option Sight
+sighted None steps = None
+sighted (Some job) steps = Some (record { job = job; steps = steps })
 
--- what a session saw: its job and its steps since it began, also after it left
+-- what a session saw: its job and its own steps, also after it left
 abbrev pub sight_of : ℕ → List Event → Option Sight
-sight_of who [] = None
-sight_of who (Begin number job ∷ events) = if number == who then Some (record { job = job; steps = [] }) else sight_of who events
-sight_of who (Did number op reply ∷ events) = if number == who then stepped op reply (sight_of who events) else sight_of who events
-sight_of who (Left number op cut ∷ events) = sight_of who events
+sight_of who events = sighted (job_of who events) (own_steps who events)
 
 -- what a session sees, where it runs
 abbrev pub view_of : ℕ → List Event → Option Sight

@@ -16,7 +16,7 @@ use Rattle.inc_proto.specs.Events.{Steps}
 use Rattle.inc_proto.specs.Files.{Files, IsSet}
 use Rattle.inc_proto.specs.declared.own.OwnLock.TheVariants.{Locked}
 use Rattle.inc_proto.specs.declared.own.Known.{Known}
-use Rattle.inc_proto.specs.Views.{name, Opening, opening, since, alone, own, Dir, dir, HasTried, HasTriedDir, HasLooked, HasSeenBoth, HasListed, HasDone, IsStanding, left_after}
+use Rattle.inc_proto.specs.Views.{name, Opening, opening, since, alone, own, dir, HasTried, HasTriedDir, HasLooked, HasSeenBoth, HasListed, HasDone, IsStanding, left_after}
 use Rattle.inc_proto.specs.Views.Opening.{Made, Opened}
 use Rattle.inc_proto.specs.Views.Dir.{Unmade, Stands, Removed, Published}
 

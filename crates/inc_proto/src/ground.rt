@@ -241,12 +241,7 @@ fn prepare(history: &mut Roomy<Event>, view: &mut View, op: &Op) -> Result<Op, M
 }
 
 /// Makes a step, and gives its reply three times. After `Memory` nothing was done.
-fn step(
-    fs: &mut Fs,
-    who: u32,
-    op: &Op,
-    chance: Chance,
-) -> Result<(Reply, Reply, Reply), Memory>
+fn step(fs: &mut Fs, who: u32, op: &Op, chance: Chance) -> Result<(Reply, Reply, Reply), Memory>
     ensures step { IfOk result (λ all. StepWith fs.old who op.now chance all.0 fs.new) }
     ensures second { IfOk result (λ all. all.1 ≡ all.0) }
     ensures third { IfOk result (λ all. all.2 ≡ all.0) }

@@ -1,4 +1,4 @@
-use Rattle.std.proofs.Common.{◌+◌, ◌-◌, ◌++◌, ◌∷◌, [], ap, sym, ◌∙◌, subst, reverse, rules, ◌<◌, length}
+use Rattle.std.proofs.Common.{◌-◌, ◌++◌, ◌∷◌, [], ap, sym, ◌∙◌, subst, reverse, rules, ◌<◌, length}
 use Rattle.inc_proto.specs.Legal.{MayDo}
 use Rattle.inc_proto.specs.declared.event.Event.TheVariants.{Did}
 use Rattle.inc_proto.proofs.Kept.{did_as, may_runs, enrolled, enrolled_within}
@@ -8,7 +8,7 @@ pub index_mut-one-requires : goal.index_mut-one-requires
 index_mut-one-requires g c =
     let may = subst (λ v. MayDo g.C.Content.files v.history c.args.who c.args.op) (sym c.self.view_is) c.requires in
     let within : c.args.who < length c.self.inside.sessions.items =
-        enrolled_within (enrolled c.args.who c.self.invariant (may_runs g.C.Content.files (reverse c.self.inside.history.0) c.args.who c.args.op may)) in
+    enrolled_within (enrolled c.args.who c.self.invariant (may_runs g.C.Content.files (reverse c.self.inside.history.0) c.args.who c.args.op may)) in
     search rules
 
 pub invariant_of-self-in-Ok-step : goal.invariant_of-self-in-Ok-step

@@ -12,7 +12,7 @@ pub index_mut-one-requires : goal.index_mut-one-requires
 index_mut-one-requires g c =
     let may = subst (λ v. MayLeave g.C.Content.files v.history c.args.who c.args.during) (sym c.self.view_is) c.requires in
     let within : c.args.who < length c.self.inside.sessions.items =
-        enrolled_within (enrolled c.args.who c.self.invariant (may_leave_runs g.C.Content.files (reverse c.self.inside.history.0) c.args.who c.args.during may)) in
+    enrolled_within (enrolled c.args.who c.self.invariant (may_leave_runs g.C.Content.files (reverse c.self.inside.history.0) c.args.who c.args.during may)) in
     search rules
 
 pub overflow_sub-self : goal.overflow_sub-self

@@ -8,5 +8,6 @@ pub mod Files
 pub mod Views
 pub mod Permits
 pub mod Legal
+pub mod LegalLaws
 pub mod Seen
 pub mod Grounds

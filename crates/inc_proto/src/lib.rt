@@ -12,6 +12,7 @@ mod enrolled;
 mod event;
 mod ground;
 mod laws;
+mod legal_laws;
 mod own;
 mod view;
 
@@ -22,5 +23,6 @@ pub use laws::{
     growing_keeps_possible, growing_tells_steps, histories_lead_on, own_events_tell_all,
     sessions_begin_first,
 };
+pub use legal_laws::{legal_histories_lead_on, others_change_no_view, own_steps_bring_forward};
 pub use own::{Known, OwnLock};
 pub use view::View;

@@ -4,3 +4,5 @@ pub mod Found
 pub mod PlaceSteps
 pub mod Measured
 pub mod Texts
+pub mod Total
+pub mod Ranges

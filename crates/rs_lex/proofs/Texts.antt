@@ -85,7 +85,7 @@ pub record IsStep (text rest : List ℕ) (tokens : List Token) (at : At) (step :
   pub within : step.length ≤ length rest
   pub read : IsRead text (drop step.length rest) (tokens ++ added step.token at (take step.length rest)) (place_after at (take step.length rest))
 
-step_of : (text rest : List ℕ) (tokens : List Token) (at : At) (piece : Piece) → IsRead text rest tokens at → piece_at rest ≡ Some piece → IsStep text rest tokens at (measured piece)
+pub step_of : (text rest : List ℕ) (tokens : List Token) (at : At) (piece : Piece) → IsRead text rest tokens at → piece_at rest ≡ Some piece → IsStep text rest tokens at (measured piece)
 step_of text rest tokens at piece read is =
     let found = piece_at-found rest piece is in
     let front : take (length (spelling piece)) rest ≡ spelling piece = take_front rest (spelling piece) (drop (length (spelling piece)) rest) found.split in

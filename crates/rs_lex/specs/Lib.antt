@@ -4,3 +4,5 @@ pub mod Scan
 pub mod Tokens
 pub mod Steps
 pub mod Faults
+pub mod Answered
+pub mod Ranges

@@ -1,4 +1,6 @@
-use inc_base::Memory;
+ghost use Rattle.std.proofs.Common.{rules};
+
+use inc_base::{Copied, Memory};
 use rs_tree::At;
 use thiserror::Error;
 
@@ -11,6 +13,10 @@ pub enum LexFault {
     /// The tokens find no memory, or the text is too long for a list.
     #[error("out of memory")]
     Memory,
+}
+
+impl Copied for LexFault {
+    ghost same = { Prim.search rules };
 }
 
 impl From<Memory> for LexFault {

@@ -1,7 +1,8 @@
 //! The lexer.
 
 ghost use Rattle.std.specs.Prelude.{◌≡◌, ◌++◌, IfOk, IfErr, OnOk};
-ghost use Rattle.rs_lex.specs.Faults.{IsRefusal};
+ghost use Rattle.rs_lex.specs.Faults.{IsLexRefusal};
+ghost use Rattle.rs_lex.specs.Ranges.{AreInRange};
 ghost use Rattle.rs_lex.specs.Steps.{added};
 ghost use Rattle.rs_lex.specs.Tokens.{HasTokens};
 
@@ -14,11 +15,12 @@ use std::alloc::Global;
 
 /// The tokens of a text, with their places, or its first fault (docs/LANGUAGE.md, "Tokens").
 ///
-/// `At` is the place of the first byte at which no token, separator or comment begins. `Memory` comes
-/// only for want of memory, also where the text is too long for a list.
+/// `At` is the place of the first byte at which no token, separator or comment begins. `Memory` comes for want
+/// of memory, also where the text is too long for a list.
 pub fn lex(alloc: Global, text: &[u8]) -> Result<List<Token>, LexFault>
     ensures tokens { IfOk result (HasTokens text.now) }
-    ensures fault { IfErr result (IsRefusal text.now) }
+    ensures ranges { IfOk result AreInRange }
+    ensures fault { IfErr result (IsLexRefusal text.now) }
 {
     if text.len() >= MOST {
         return Err(LexFault::Memory);

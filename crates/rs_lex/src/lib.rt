@@ -5,6 +5,7 @@
 #![tactic(auto)]
 
 mod fault;
+mod laws;
 mod length;
 mod lexer;
 mod place;
@@ -13,5 +14,6 @@ mod step;
 mod tests;
 
 pub use fault::LexFault;
+pub use laws::texts_are_answered;
 pub use lexer::lex;
 pub use place::end_of;

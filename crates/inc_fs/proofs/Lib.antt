@@ -1,6 +1,6 @@
 pub mod Tables
 pub mod Listing
-pub mod Pairs
+pub mod Skips
 pub mod Numbers
 pub mod Results
 pub mod Renaming

@@ -9,6 +9,7 @@ pub mod Points
 pub mod Readings
 pub mod Locks
 pub mod Tidy
+pub mod Listings
 pub mod Changes
 pub mod Steps
 pub mod Ending

@@ -13,7 +13,7 @@ use Rattle.inc_fs.specs.declared.op.Reply.{Reply}
 use Rattle.inc_fs.specs.declared.op.Reply.TheVariants.{Drawn, Handle as GotHandle, Names, Bytes, Done, Got, Held, Exists, Missing, NotEmpty, Fault}
 use Rattle.inc_fs.specs.Readings.{own_is, file_is}
 use Rattle.inc_fs.specs.State.{State, Text, IsIn, start, file_at, others, locked, shared_by, freed, is_whose, released, released_file, end_of, with_lock, with_piece}
-use Rattle.inc_fs.specs.Step.{Step, cut_short}
+use Rattle.inc_fs.specs.Step.{Step}
 use Rattle.inc_fs.specs.Steps.{step_changes}
 use Rattle.inc_fs.specs.Ending.{end_tidy}
 use Rattle.inc_fs.specs.Tidy.{IsTidy, start_tidy}

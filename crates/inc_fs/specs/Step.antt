@@ -1,6 +1,6 @@
 -- The table of steps, a row for each kind of step: asked in the state F by the session `who`, the directory may give
 -- this reply and go on to the state G. A row that a reply doesn't name doesn't give it.
-use Rattle.std.specs.Prelude.{◌≡◌, ◌≢◌, ℕ, ◌+◌, ◌%◌, ◌^◌, ◌<◌, ◌≤◌, Bool, true, false, List, [], ◌∷◌, length, take, max, IsSome, Option, Some, None, ◌⊎◌}
+use Rattle.std.specs.Prelude.{◌≡◌, ◌≢◌, ℕ, ◌^◌, ◌<◌, ◌≤◌, Bool, true, false, List, [], ◌∷◌, length, take, max, IsSome, Option, Some, None, ◌⊎◌}
 use Rattle.std.specs.Map.{keys_of}
 use Rattle.std.specs.BTreeMap.{insert_entry, is_at}
 use Rattle.inc_fs.specs.declared.state.Entry.TheVariants.{LockFile, Folder}
@@ -10,27 +10,29 @@ use Rattle.inc_fs.specs.declared.op.Op.TheVariants.{Draw, MakeLock, OpenLock, Tr
 use Rattle.inc_fs.specs.declared.op.Reply.{Reply}
 use Rattle.inc_fs.specs.declared.op.Reply.TheVariants.{Drawn, Handle, Names, Bytes, Done, Got, Held, Exists, Missing, NotEmpty, Fault}
 use Rattle.inc_fs.specs.declared.op.Chance.{Chance}
+use Rattle.inc_fs.specs.Drawn.{AreDrawnUpTo}
 use Rattle.inc_fs.specs.State.{State, IsIn, Text, remove_entry, entry_at, lock_at, folder_at, number_at, named, own_file, file_at, listed, with_entry, without_entry, with_handle, with_new_file, with_lock, with_piece, is_excluded, locked, without_handle, last_moment, text_cmp}
 
--- `Draw`: a new pair, whose moment is not before the one drawn last
+-- `Draw`: a new pair, whose moment is not before the one drawn last. A moment is below 2^64 and a random part below 2^32.
 abbrev pub Draws : State → Reply → State → Type 0
 Draws F (Drawn moment random) G =
     (last_moment F.drawn ≤ moment) × (¬ IsIn F.drawn (moment, random))
-    × (G ≡ record F { drawn = (moment, random) ∷ F.drawn })
+    × (G ≡ record F { drawn = (moment, random) ∷ F.drawn }) × (moment < 2 ^ 64) × (random < 2 ^ 32)
 Draws F reply G = ⊥
 
--- `MakeLock`: an empty file under a name that nothing has, opened by a handle that was never given
+-- `MakeLock`: an empty file under a name that nothing has, opened by a handle that was never given. Its number is below
+-- 2^32, here and in the next row.
 abbrev pub MakesLock : State → ℕ → Text → Text → Reply → State → Type 0
 MakesLock F who krate entry (Handle handle) G =
     (entry_at F krate entry ≡ None) × (¬ IsIn F.given handle)
-    × (G ≡ with_handle (with_entry (with_new_file F) krate entry (LockFile (length F.files))) who handle (length F.files))
+    × (G ≡ with_handle (with_entry (with_new_file F) krate entry (LockFile (length F.files))) who handle (length F.files)) × (handle < 2 ^ 32)
 MakesLock F who krate entry Exists G = IsSome (entry_at F krate entry) × (G ≡ F)
 MakesLock F who krate entry reply G = ⊥
 
 -- `OpenLock`: a handle that was never given, on the lock file of that name
 abbrev pub OpensLock : State → ℕ → Text → Text → Reply → State → Type 0
 OpensLock F who krate entry (Handle handle) G =
-    (number : ℕ) × (lock_at F krate entry ≡ Some number) × (¬ IsIn F.given handle) × (G ≡ with_handle F who handle number)
+    (number : ℕ) × (lock_at F krate entry ≡ Some number) × (¬ IsIn F.given handle) × (G ≡ with_handle F who handle number) × (handle < 2 ^ 32)
 OpensLock F who krate entry Missing G = (lock_at F krate entry ≡ None) × (G ≡ F)
 OpensLock F who krate entry reply G = ⊥
 
@@ -157,17 +159,11 @@ abbrev pub Step : State → ℕ → Op → Reply → State → Type 0
 Step F who op Fault G = (cut : ℕ) × (G ≡ cut_short F op cut)
 Step F who op reply G = Answers F who op reply G
 
--- the first random part from here on that was not drawn with this moment
-pub record IsFirstFree (drawn : List (ℕ × ℕ)) (moment random found : ℕ) : Type 0 where
-  pub steps : ℕ
-  pub found_is : found ≡ (random + steps) % 2 ^ 32
-  pub before : (j : ℕ) → j < steps → IsIn drawn (moment, (random + j) % 2 ^ 32)
-
--- the pair that a draw with this chance gives: the first that is new, its random parts wrapping
+-- the pair that a draw with this chance gives: the first that is new, so that each before it was drawn
 abbrev pub IsFirstNew : List (ℕ × ℕ) → Chance → Reply → Type 0
 IsFirstNew drawn chance (Drawn moment random) =
     (moment ≡ max chance.moment (last_moment drawn))
-    × IsFirstFree drawn moment chance.random random
+    × AreDrawnUpTo drawn moment chance.random random
 IsFirstNew drawn chance reply = Unit {0}
 
 -- what the chance decides of a step

@@ -1,17 +1,18 @@
 //! The laws of the table, each as the contract of a function that does nothing. The lemmas that they
 //! are proved by stand in `specs/`, where the crates above cite them.
 
-ghost use Rattle.std.specs.Prelude.{◌≡◌, ◌≢◌, ℕ, List, [], Bool, Some, None, true, false, IsSome, slice_get, length};
-ghost use Rattle.std.specs.Map.{lookup};
-ghost use Rattle.std.specs.BTreeMap.{is_at};
+ghost use Rattle.std.specs.Prelude.{◌≡◌, ◌≢◌, ◌↔◌, ℕ, List, [], Bool, Some, None, true, false, IsSome, slice_get, length};
+ghost use Rattle.std.specs.List.Sorted.{IsStrictlySortedBy};
 ghost use Rattle.inc_fs.specs.declared.op.Op.{Op};
+ghost use Rattle.inc_fs.specs.declared.op.Op.TheVariants.{Look, ListDir};
 ghost use Rattle.inc_fs.specs.declared.op.Reply.{Reply};
+ghost use Rattle.inc_fs.specs.declared.op.Reply.TheVariants.{Names};
 ghost use Rattle.inc_fs.specs.declared.op.Chance.{Chance};
 ghost use Rattle.inc_fs.specs.declared.state.Entry.{Entry};
 ghost use Rattle.inc_fs.specs.declared.state.File.{File};
 ghost use Rattle.inc_fs.specs.declared.state.Lock.{Lock};
 ghost use Rattle.inc_fs.specs.declared.state.Lock.TheVariants.{Free};
-ghost use Rattle.inc_fs.specs.State.{State, Text, Path, IsIn, path_cmp, start, end_of, entry_at, folder_of, folder_at, lock_of, lock_at, opened_at, listed, is_excluded, locked, freed, with_entry, without_entry, with_new_file, with_bytes, with_lock, with_handle, without_handle};
+ghost use Rattle.inc_fs.specs.State.{State, Text, IsIn, text_cmp, start, end_of, entry_at, folder_of, folder_at, lock_of, lock_at, number_at, opened_at, is_excluded, locked, freed, with_entry, without_entry, with_new_file, with_bytes, with_lock, with_handle, without_handle};
 ghost use Rattle.inc_fs.specs.Step.{Step, StepWith};
 ghost use Rattle.inc_fs.specs.Kinds.{IsKindOf};
 ghost use Rattle.inc_fs.specs.Points.{with_at, put_at};
@@ -91,9 +92,13 @@ pub fn locks_change_for_one_handle()
     ensures exclusive { (lock : Lock) (h g : ℕ) → held_in lock h ≡ Some true → IsSome (held_in lock g) → h ≡ g }
 {}
 
-/// What a listing of a crate directory names stands in it.
-pub fn listed_entries_stand()
-    ensures { (krate entry : Text) (entries : List (Path × Entry)) → IsIn (listed krate entries) entry → IsSome (lookup (is_at (path_cmp (krate, entry))) entries) }
+/// A listing has a name exactly where the entry, or the file, stands, and in a tidy directory its names
+/// ascend by their bytes, so each is there once.
+pub fn listings_are_exact()
+    ensures look { (F G : State) (who : ℕ) (krate entry : Text) (names : List Text) → Step F who (Look krate) (Names names) G → IsIn names entry ↔ IsSome (entry_at F krate entry) }
+    ensures look_ascends { (F G : State) (who : ℕ) (krate : Text) (names : List Text) → IsTidy F → Step F who (Look krate) (Names names) G → IsStrictlySortedBy text_cmp names }
+    ensures list { (F G : State) (who : ℕ) (krate entry file : Text) (names : List Text) → Step F who (ListDir krate entry) (Names names) G → IsIn names file ↔ IsSome (number_at F krate entry file) }
+    ensures list_ascends { (F G : State) (who : ℕ) (krate entry : Text) (names : List Text) → IsTidy F → Step F who (ListDir krate entry) (Names names) G → IsStrictlySortedBy text_cmp names }
 {}
 
 /// The empty directory is sound, and steps and endings keep a directory sound: it is tidy, each holder of a

@@ -133,7 +133,7 @@ kept_began files h room F ss running job small kept =
     let itself : length ss == length ss ≡ true = eq-eqb (length ss) (length ss) refl in
     let here : Fits (Begin (length ss) job ∷ h) (length ss) (Some new) = (refl, rw itself refl, rw itself refl) in
     record {
-      leads = (F, kept.leads, (kept.numbered, refl));
+      leads = (F, kept.leads, (kept.numbered, refl, omega arith));
       allowed = (kept.allowed, tt);
       numbered = length-append ss (new ∷ []) ∙ ap (λ n. n + 1) kept.numbered;
       fits = λ k. subst (λ o. Fits (Begin (length ss) job ∷ h) k o) (sym (push_at ss new k))

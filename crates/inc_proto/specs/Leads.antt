@@ -1,5 +1,5 @@
 -- The states that a history leads to.
-use Rattle.std.specs.Prelude.{◌≡◌, ℕ, List, [], ◌∷◌, Option, Some, None}
+use Rattle.std.specs.Prelude.{◌≡◌, ◌<◌, ◌^◌, ℕ, List, [], ◌∷◌, Option, Some, None}
 use Rattle.inc_fs.specs.State.{State, start, end_of}
 use Rattle.inc_fs.specs.Step.{Step, cut_short}
 use Rattle.inc_fs.specs.declared.op.Op.{Op}
@@ -12,10 +12,10 @@ abbrev pub stopped : State → Option Op → ℕ → State
 stopped F None cut = F
 stopped F (Some op) cut = cut_short F op cut
 
--- After these events, an event leads from F to G: a beginning has the next number and changes nothing, a step is one
--- of the table, and a leaving ends its session.
+-- After these events, an event leads from F to G: a beginning has the next number, which is below 2^32, and changes
+-- nothing, a step is one of the table, and a leaving ends its session.
 abbrev pub Happens : List Event → State → Event → State → Type 0
-Happens events F (Begin number job) G = (number ≡ begins events) × (G ≡ F)
+Happens events F (Begin number job) G = (number ≡ begins events) × (G ≡ F) × (number < 2 ^ 32)
 Happens events F (Did number op reply) G = Step F number op reply G
 Happens events F (Left number op cut) G = G ≡ end_of (stopped F op cut) number
 

@@ -1,4 +1,4 @@
-ghost use Rattle.std.specs.Prelude.{◌≡◌, ◌≢◌, ◌<◌, ◌+◌, IfOk, IfSome, IfNone, OnOk, OnErr, Some, None, length, vec_len, slice_index_or, slice_set, filter, not, ◌==◌};
+ghost use Rattle.std.specs.Prelude.{◌≡◌, ◌≢◌, ◌<◌, ◌+◌, ◌^◌, IfOk, IfSome, IfNone, OnOk, OnErr, Some, None, length, vec_len, slice_index_or, slice_set, filter, not, ◌==◌};
 ghost use Rattle.std.specs.BTreeMap.{insert_entry, is_at};
 ghost use Rattle.std.specs.Ordering.{nat_cmp};
 ghost use Rattle.inc_fs.specs.State.{own_file, lock_at, freed, remove_entry};
@@ -145,6 +145,7 @@ fn give(
     file: u32,
 ) -> Result<u32, Memory>
     ensures next { IfOk result (λ handle. handle ≡ given.old) }
+    ensures few { IfOk result (λ handle. handle < 2 ^ 32) }
     ensures given { OnOk result (given.new ≡ given.old + 1) }
     ensures opened { IfOk result (λ handle. handles.new.entries ≡ insert_entry nat_cmp handles.old.entries handle (record { owner = owner; file = file })) }
     ensures err { OnErr result ((given.new ≡ given.old) × (handles.new.entries ≡ handles.old.entries)) }

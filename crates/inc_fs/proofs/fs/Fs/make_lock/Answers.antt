@@ -19,6 +19,7 @@ returns-in-Ok-clause-makes c =
       search rules,
       rw (← c.self.view_is) (below_free c.self.inside.given c.in-Ok.handle next),
       rw (← c.self.view_is) (λ i. record { files = files i; entries = entries i; handles = handles i; given = below-given c.self.inside.given c.give.new.given c.in-Ok.handle next c.in-Ok.ensures.given i; drawn = c.self.inside.drawn }),
+      c.in-Ok.ensures.few,
     )
 
 pub returns-clause-err : goal.returns-clause-err

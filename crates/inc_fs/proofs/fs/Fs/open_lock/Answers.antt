@@ -9,4 +9,5 @@ returns-clause-opens c =
       search rules,
       rw (← c.self.view_is) (below_free c.self.inside.given c.in_ok-handle.handle next),
       rw (← c.self.view_is) (λ i. record { files = c.self.inside.files.items; entries = c.self.inside.entries; handles = c.in_ok-handle.ensures.opened i; given = below-given c.self.inside.given c.give.new.given c.in_ok-handle.handle next c.in_ok-handle.ensures.given i; drawn = c.self.inside.drawn }),
+      c.in_ok-handle.ensures.few,
     )

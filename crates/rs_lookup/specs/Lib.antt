@@ -1,0 +1,4 @@
+pub mod Env
+pub mod Keys
+pub mod Places
+pub mod Tracks

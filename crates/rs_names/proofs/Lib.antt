@@ -1,0 +1,5 @@
+pub mod Bodies
+mod Counted
+mod Firsts
+pub mod NamesOf
+pub mod Steps

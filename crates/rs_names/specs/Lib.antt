@@ -1,0 +1,6 @@
+pub mod Firsts
+pub mod Indexed
+pub mod Laws
+pub mod Names
+pub mod Resolved
+pub mod State

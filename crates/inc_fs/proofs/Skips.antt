@@ -24,9 +24,6 @@ same_pairs = same_or_apart pair_cmp pair_cmp_exact
 
 -- ---- Ways.
 
-pub no_way : (drawn : List (ℕ × ℕ)) (moment random : ℕ) → random < 2 ^ 32 → AreDrawnUpTo drawn moment random random
-no_way drawn moment random few = record { steps = 0; other_is = omega arith; before = λ j h. absurd (omega arith) }
-
 one_step : (drawn : List (ℕ × ℕ)) (moment random : ℕ) → random < 2 ^ 32 → IsIn drawn (moment, random) → AreDrawnUpTo drawn moment random ((random + 1) % 2 ^ 32)
 one_step drawn moment random few within = record {
   steps = 1;

@@ -1,4 +1,4 @@
-ghost use Rattle.std.specs.Prelude.{◌≡◌, ◌≤◌, ℕ, true, false, IfOk, IfSome};
+ghost use Rattle.std.specs.Prelude.{◌≡◌, ◌≤◌, ℕ, true, false, IfOk, IfSome, OnErr};
 ghost use Rattle.std.specs.BTreeSet.{contains};
 ghost use Rattle.inc_fs.specs.Drawn.{pair_cmp};
 
@@ -25,12 +25,15 @@ impl Draws {
     }
 
     /// Draws a new pair: the moment is the greater of this one and the last drawn one, and the random part
-    /// the first free one from `first` on. `Memory` draws nothing, and also comes where none is free.
+    /// the first free one from `first` on. The pairs of before stay. `Memory` draws nothing, and also comes
+    /// where none is free.
     pub fn draw(&mut self, moment: u64, first: u32) -> Result<(u64, u32), Memory>
         ensures moment { IfOk result (λ pair. moment ≤ pair.0) }
         ensures later { IfOk result (λ pair. (self.old.last ≤ pair.0) × (self.new.last ≡ pair.0)) }
         ensures fresh { IfOk result (λ pair. contains pair_cmp self.old.pairs pair ≡ false) }
         ensures noted { IfOk result (λ pair. contains pair_cmp self.new.pairs pair ≡ true) }
+        ensures stay { (pair : ℕ × ℕ) → contains pair_cmp self.old.pairs pair ≡ true → contains pair_cmp self.new.pairs pair ≡ true }
+        ensures err { OnErr result ((self.new.last ≡ self.old.last) × ((pair : ℕ × ℕ) → contains pair_cmp self.new.pairs pair ≡ contains pair_cmp self.old.pairs pair)) }
     {
         let moment = moment.max(self.last);
         let Some(random) = first_free(&self.pairs, moment, first) else {

@@ -1,5 +1,5 @@
 -- The bytes of values.
-use Rattle.std.specs.Prelude.{◌≡◌, ℕ, ◌^◌, ◌<◌, ◌⊎◌, List, ◌++◌, length, codes}
+use Rattle.std.specs.Prelude.{◌≡◌, ℕ, ◌^◌, ◌<◌, ◌⊎◌, Bool, if◌then◌else◌, List, ◌++◌, length, codes}
 use Rattle.std.specs.List.{flat_map}
 use Rattle.byteorder.specs.Endian.{big_bytes, big_number}
 use Rattle.sha2.specs.Sha256.{sha256}
@@ -19,6 +19,13 @@ number_form width v = big_bytes width v
 -- a text: its length in four bytes, and its bytes
 unfoldable pub text_form : List ℕ → List ℕ
 text_form text = number_form 4 (length text) ++ text
+
+-- a truth value: 0 or 1 in one byte
+abbrev pub flag_of : Bool → ℕ
+flag_of b = if b then 1 else 0
+
+abbrev pub flag_form : Bool → List ℕ
+flag_form b = number_form 1 (flag_of b)
 
 -- a list: how many elements, in four bytes, and the form of each
 unfoldable pub list_form : {X : Type 0} → (X → List ℕ) → List X → List ℕ

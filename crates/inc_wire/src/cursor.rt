@@ -55,6 +55,19 @@ impl<'a> Cursor<'a> {
         Some(number_of(field))
     }
 
+    /// Takes so many bytes. None exactly where fewer are left; then nothing is taken.
+    pub fn bytes(&mut self, n: usize) -> Option<&'a [u8]>
+        ensures some { IfSome result (λ front. (length front.now ≡ n) × (self.old ≡ front.now ++ self.new)) }
+        ensures none { IfNone result ((length self.old < n) × (self.new ≡ self.old)) }
+    {
+        if self.rest.len() < n {
+            return None;
+        }
+        let (front, rest) = self.rest.split_at(n);
+        self.rest = rest;
+        Some(front)
+    }
+
     /// Takes a text. None exactly where too few bytes are left for its length or for as many as that
     /// says; then nothing is taken.
     pub fn text(&mut self) -> Option<&'a [u8]>

@@ -6,15 +6,23 @@
 #![tactic(auto)]
 
 mod cursor;
+mod field;
+mod front;
 mod header;
 mod laws;
 mod print;
 mod put;
+mod read;
 mod take;
+mod values;
 
 pub use cursor::Cursor;
+pub use field::{Field, put_all};
+pub use front::{take_flag, take_text, take_u8, take_u16, take_u32, take_u64};
 pub use header::Header;
-pub use laws::forms_differ;
+pub use laws::{form_is_read_back, forms_differ, narrowing_is_exact};
 pub use print::{Print, job_hash, print_of};
 pub use put::{put_header, put_number, put_text};
+pub use read::{Read, read_whole, take_list};
 pub use take::take_header;
+pub use values::Byte;

@@ -3,9 +3,6 @@ pub mod Tables
 pub mod Values
 pub mod Both
 pub mod Codes
-pub mod Lists
-pub mod Fronts
-pub mod Instrs
-pub mod Taking
 pub mod Weights
 pub mod Mirror
+pub mod Orders

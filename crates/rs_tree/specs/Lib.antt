@@ -3,9 +3,8 @@ pub mod Kinds
 pub mod Plain
 pub mod Equations
 pub mod Weight
-pub mod Forms
-pub mod Fits
-pub mod Readings
 pub mod Mirrors
 pub mod Leaves
 pub mod LeafLaws
+pub mod Labels
+pub mod Order

@@ -1,6 +1,6 @@
 -- A number for each expression and each statement, above those of its parts: what recursions go down.
-use Rattle.std.specs.Prelude.{◌≡◌, ℕ, ◌+◌, List, Option}
-use Rattle.std.proofs.Common.{ap}
+use Rattle.std.specs.Prelude.{◌≡◌, ℕ, ◌+◌, ◌<◌, ◌≤◌, List, [], Option, None, length}
+use Rattle.std.proofs.Common.{ap, get_or}
 use Rattle.rs_tree.specs.declared.tree.Path as path
 use Rattle.rs_tree.specs.declared.tree.Expr.{Expr}
 use Rattle.rs_tree.specs.declared.tree.Stmt.{Stmt}
@@ -84,3 +84,23 @@ pub size_or : (e : Expr) (parts : List Expr) → e.form ≡ form.Or parts → si
 size_or e parts is = ap size (is_or e parts is)
 
 pub ruleset measures = (size_call, size_group, size_unary, size_arith, size_compare, size_and, size_or)
+
+-- each part of an expression weighs less than the whole, and one of several no more than all
+pub record ExpressionsWeighMore : Type 0 where
+  pub call : (e : Expr) (n : path.Path) (args : List Expr) → e.form ≡ form.Call n args → sizes (expressions args) < size (exp e)
+  pub group : (e : Expr) (a : Expr) → e.form ≡ form.Group a → size (exp a) < size (exp e)
+  pub unary : (e : Expr) (op : UnaryOp) (a : Expr) → e.form ≡ form.Unary op a → size (exp a) < size (exp e)
+  pub arith : (e : Expr) (a : Expr) (more : List (ArithOp × Expr)) → e.form ≡ form.Arith a more → size (exp a) + sizes_by (operations more) < size (exp e)
+  pub compare : (e : Expr) (op : CmpOp) (a b : Expr) → e.form ≡ form.Compare op a b → size (exp a) + size (exp b) < size (exp e)
+  pub both : (e : Expr) (parts : List Expr) → e.form ≡ form.And parts → sizes (expressions parts) < size (exp e)
+  pub either : (e : Expr) (parts : List Expr) → e.form ≡ form.Or parts → sizes (expressions parts) < size (exp e)
+  pub one : (es : List Expr) (i : ℕ) (e : Expr) → i < length es → e ≡ get_or es i e → size (exp e) ≤ sizes (expressions es)
+  pub operand : (os : List (ArithOp × Expr)) (i : ℕ) (o : ArithOp × Expr) → i < length os → o ≡ get_or os i o → size (exp o.1) ≤ sizes_by (operations os)
+
+-- each block of a statement weighs less than the statement, and one of several no more than all
+pub record StatementsWeighMore : Type 0 where
+  pub loop : (s : Stmt) (cond : Expr) (body : List Stmt) → s ≡ stmt.While cond body → weights (statements body) < weight (sta s)
+  pub arms : (s : Stmt) (cs : List (Expr × List Stmt)) (other : Option (List Stmt)) → s ≡ stmt.If cs other → weight_arms (choices cs None) < weight (sta s)
+  pub otherwise : (s : Stmt) (cs : List (Expr × List Stmt)) (other : Option (List Stmt)) → s ≡ stmt.If cs other → weight_arms (choices [] other) < weight (sta s)
+  pub one : (ss : List Stmt) (i : ℕ) (s : Stmt) → i < length ss → s ≡ get_or ss i s → weight (sta s) ≤ weights (statements ss)
+  pub arm : (cs : List (Expr × List Stmt)) (i : ℕ) (c : Expr × List Stmt) → i < length cs → c ≡ get_or cs i c → weights (statements c.1) ≤ weight_arms (choices cs None)

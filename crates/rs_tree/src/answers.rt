@@ -3,8 +3,9 @@ ghost use Rattle.std.proofs.Common.{rules};
 use crate::place::{At, Place};
 use inc_base::{Bytes, Copied};
 
-/// A diagnostic: its place, its number (101 for E101, 201 for W201) and its text.
-#[derive(Clone, Debug, Drop)]
+/// A diagnostic: its place, its number (101 for E101, 201 for W201) and its text. Diagnostics are ordered by
+/// these, in this order.
+#[derive(Clone, Debug, Drop, PartialEq, Eq, PartialOrd, Ord)]
 pub struct Diag {
     pub at: At,
     pub code: u16,
@@ -16,7 +17,7 @@ impl Copied for Diag {
 }
 
 /// What a path leads to.
-#[derive(Clone, Debug, Drop)]
+#[derive(Clone, Debug, Drop, PartialEq, Eq)]
 pub enum Found {
     /// A variable or a parameter.
     Local,

@@ -1,5 +1,6 @@
 ghost use Rattle.std.proofs.Common.{rules};
 
+use crate::place::At;
 use crate::tree::Typ;
 use inc_base::{Bytes, Copied, List};
 
@@ -28,9 +29,39 @@ impl Copied for IndexItem {
     ghost same = { Prim.search rules };
 }
 
+/// What a text with a fault has in place of an index: the place of the fault in the text, which fault it is, and
+/// the name that is there twice, or no byte where it is another fault.
+#[derive(Clone, Debug, Drop)]
+pub struct IndexFault {
+    pub at: At,
+    pub code: TextFault,
+    pub name: Bytes,
+}
+
+impl Copied for IndexFault {
+    ghost same = { Prim.search rules };
+}
+
+/// The faults of a whole text.
+#[derive(Clone, Copy, Debug, PartialEq, Eq)]
+pub enum TextFault {
+    /// A byte at which no token begins.
+    Byte,
+    /// A bracket with which too many are open.
+    Nesting,
+    /// A token, or the end, that can't stand there.
+    Syntax,
+    /// A name that an earlier item of the module, or an earlier module, has.
+    Twice,
+}
+
+impl Copied for TextFault {
+    ghost same = { Prim.search rules };
+}
+
 /// What the uses of an item need to know of it: its kind as in the index, the types of its parameters,
 /// and the type that it has or gives.
-#[derive(Clone, Debug, Drop)]
+#[derive(Clone, Debug, Drop, PartialEq, Eq)]
 pub struct Sig {
     pub kind: u8,
     pub public: bool,

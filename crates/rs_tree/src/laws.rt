@@ -1,15 +1,17 @@
-//! Values are seen from their bytes, and trees from their plain mirrors.
+//! Trees are seen from their plain mirrors, and answers are ordered.
 
 ghost use Rattle.std.specs.Prelude.{◌≡◌, ◌≤◌, ◌++◌, List, length, drop};
+ghost use Rattle.std.specs.Cmp.{IsTotalOrder};
+ghost use Rattle.std.specs.FinMap.{IsAntisymmetric};
 ghost use Rattle.std.specs.List.{zip};
-ghost use Rattle.rs_tree.specs.Fits.{FitsIndex, FitsIr, FitsList, FitsSig, FitsToken};
-ghost use Rattle.rs_tree.specs.Forms.{index_form, ir_form, item_form, sig_form};
 ghost use Rattle.rs_tree.specs.Leaves.{answered, definition_filled, definition_leaves, filled, leaves, sta_filled, sta_leaves};
 ghost use Rattle.rs_tree.specs.Mirrors.{MirrorsExpressions, MirrorsStatements};
+ghost use Rattle.rs_tree.specs.Order.{at_cmp, diag_cmp, place_cmp};
 ghost use Rattle.rs_tree.specs.Plain.{Definition, Exp, Sta, definition, exp, plain_crate, plain_item, plain_placed, sta};
-ghost use Rattle.rs_tree.specs.declared.index.Index.{Index};
-ghost use Rattle.rs_tree.specs.declared.index.Sig.{Sig};
-ghost use Rattle.rs_tree.specs.declared.ir.Ir.{Ir};
+ghost use Rattle.rs_tree.specs.Weight.{ExpressionsWeighMore, StatementsWeighMore};
+ghost use Rattle.rs_tree.specs.declared.answers.Diag as diag;
+ghost use Rattle.rs_tree.specs.declared.place.At as at;
+ghost use Rattle.rs_tree.specs.declared.place.Place as place;
 ghost use Rattle.rs_tree.specs.declared.tree.Body.{Body};
 ghost use Rattle.rs_tree.specs.declared.tree.Crate.{Crate};
 ghost use Rattle.rs_tree.specs.declared.tree.Expr.{Expr};
@@ -17,14 +19,8 @@ ghost use Rattle.rs_tree.specs.declared.tree.Item.{Item};
 ghost use Rattle.rs_tree.specs.declared.tree.Placed.{Placed};
 ghost use Rattle.rs_tree.specs.declared.tree.Stmt.{Stmt};
 
-/// The bytes of two values of a type differ where the values do; those of two items where their tokens
-/// do, from which the rest of an item follows (docs/FORMATS.md, "Queries").
-pub fn forms_differ()
-    ensures item { (a b : Item) → FitsList FitsToken a.tokens → FitsList FitsToken b.tokens → item_form a ≡ item_form b → a.tokens ≡ b.tokens }
-    ensures index { (a b : Index) → FitsIndex a → FitsIndex b → index_form a ≡ index_form b → a ≡ b }
-    ensures sig { (a b : Sig) → FitsSig a → FitsSig b → sig_form a ≡ sig_form b → a ≡ b }
-    ensures ir { (a b : Ir) → FitsIr a → FitsIr b → ir_form a ≡ ir_form b → a ≡ b }
-{}
+use crate::answers::Diag;
+use crate::place::{At, Place};
 
 /// The plain mirrors of two trees differ where the trees do: a mirror keeps every part, place and path.
 pub fn mirrors_differ()
@@ -42,6 +38,12 @@ pub fn mirrors_have_parts()
     ensures statements { MirrorsStatements }
 {}
 
+/// An expression weighs more than its parts, and a statement more than its blocks: what a walk goes down.
+pub fn parts_weigh_less()
+    ensures expressions { ExpressionsWeighMore }
+    ensures statements { StatementsWeighMore }
+{}
+
 /// What stands at the paths of an answered tree is what stood at the tree's, in order, each beside its
 /// answer; so there are as many, and what follows a part goes on after as many answers as the part has
 /// paths.
@@ -52,4 +54,19 @@ pub fn answers_stand_at_leaves<A, B>()
     ensures count { (missing : B) (bs : List B) (leaves : List A) → length (answered missing bs leaves) ≡ length leaves }
     ensures enough { (missing : B) (bs : List B) (leaves : List A) → length leaves ≤ length bs → answered missing bs leaves ≡ zip leaves bs }
     ensures left { (first later : List A) (bs : List B) → drop (length (first ++ later)) bs ≡ drop (length later) (drop (length first) bs) }
+{}
+
+/// Places in a text, places of items and diagnostics are ordered as `specs/Order.antt` says: by line and
+/// column; by module and name; by place, number and text. These orders are total, and what they call equal is
+/// the same value.
+pub fn orders_are_total()
+    ensures at { (a b : at.At) → ⟦<At as Ord>⟧.cmp a b ≡ at_cmp a b }
+    ensures at_total { IsTotalOrder at_cmp }
+    ensures at_same { IsAntisymmetric at_cmp }
+    ensures place { (a b : place.Place) → ⟦<Place as Ord>⟧.cmp a b ≡ place_cmp a b }
+    ensures place_total { IsTotalOrder place_cmp }
+    ensures place_same { IsAntisymmetric place_cmp }
+    ensures diag { (a b : diag.Diag) → ⟦<Diag as Ord>⟧.cmp a b ≡ diag_cmp a b }
+    ensures diag_total { IsTotalOrder diag_cmp }
+    ensures diag_same { IsAntisymmetric diag_cmp }
 {}

@@ -1,40 +1,31 @@
-//! The trees of the language, what the passes over them answer, and their byte forms.
+//! The trees of the language, what the passes over them answer, and what a token is.
 //!
-//! Below it stand `inc_base` and `inc_wire`. Trees recurse through `Items` and `Boxed`, so that contracts see lists
+//! Below it stands `inc_base`. Trees recurse through `Items` and `Boxed`, so that contracts see lists
 //! and values; definitions go over the plain mirror of them. Open `specs/Plain.antt` first, and
 //! `specs/Kinds.antt` for what a token is.
 #![tactic(auto)]
 
 mod answers;
-mod code;
 mod copies;
-mod field;
-mod forms;
 mod index;
 mod ir;
 mod keyword;
 mod kind;
 mod laws;
 mod place;
-mod read;
-mod readers;
 mod sign;
-mod take;
-#[cfg(test)]
-mod tests;
 mod token;
 mod tree;
 mod word;
 
 pub use answers::{Const, Diag, Found};
-pub use code::read_ir;
-pub use forms::{index_bytes, ir_bytes, item_bytes, sig_bytes};
-pub use index::{Index, IndexItem, Sig};
+pub use index::{Index, IndexFault, IndexItem, Sig, TextFault};
 pub use ir::{Instr, Ir};
 pub use kind::{Kind, is_token, kind_of};
-pub use laws::{answers_stand_at_leaves, forms_differ, mirrors_differ, mirrors_have_parts};
+pub use laws::{
+    answers_stand_at_leaves, mirrors_differ, mirrors_have_parts, orders_are_total, parts_weigh_less,
+};
 pub use place::{At, Place};
-pub use readers::{read_index, read_item, read_sig};
 pub use sign::sign_of;
 pub use token::Token;
 pub use tree::{

@@ -17,8 +17,9 @@ impl Copied for At {
     ghost same = { Prim.search rules };
 }
 
-/// The place of an item: its module, which is empty for the root, and its name.
-#[derive(Clone, Debug, Drop)]
+/// The place of an item: its module, which is empty for the root, and its name. Places are ordered by these,
+/// each by its bytes.
+#[derive(Clone, Debug, Drop, PartialEq, Eq, PartialOrd, Ord)]
 pub struct Place {
     pub module: Bytes,
     pub name: Bytes,

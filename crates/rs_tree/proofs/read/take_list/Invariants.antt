@@ -1,9 +1,0 @@
-use Rattle.std.proofs.Common.{◌-◌, length}
-use Rattle.rs_tree.proofs.Taking.{IsUnderWay}
-use Rattle.rs_tree.proofs.read.take_list.Given as goal
-
-abbrev pub invariant-each : goal.invariant-each
-invariant-each g l = IsUnderWay g.T.Read.fits g.T.Read.form l.count l.initial.from l.from l.items
-
-abbrev pub decreases-each : goal.decreases-each
-decreases-each g l = l.count - length l.items

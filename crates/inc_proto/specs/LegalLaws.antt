@@ -6,15 +6,14 @@ use Rattle.std.proofs.lemmas.Bool.{ne_eqb}
 use Rattle.inc_base.specs.declared.job.Job.{Job}
 use Rattle.inc_fs.specs.State.{State}
 use Rattle.inc_fs.specs.declared.op.Op.{Op}
-use Rattle.inc_fs.specs.declared.op.Reply.{Reply}
 use Rattle.inc_proto.specs.declared.event.Event.{Event}
 use Rattle.inc_proto.specs.declared.event.Event.TheVariants.{Begin, Did, Left}
-use Rattle.inc_proto.specs.Events.{number_of, is_running, job_of, own_steps, by, Steps, AreOfRunning}
+use Rattle.inc_proto.specs.Events.{is_running, job_of, own_steps, by, Steps, AreOfRunning}
 use Rattle.inc_proto.specs.EventLaws.{is_running-by, job_of-by, own_steps-by}
 use Rattle.inc_proto.specs.Files.{Files}
 use Rattle.inc_proto.specs.Growth.{IsOfOther}
 use Rattle.inc_proto.specs.Leads.{LeadsTo, IsPossible}
-use Rattle.inc_proto.specs.Legal.{Sight, sighted, sight_of, view_of, MaySee, MayDo, MayLeave, IsAllowed, AreAllowed, IsLegal}
+use Rattle.inc_proto.specs.Legal.{Sight, sighted, sight_of, view_of, MaySee, MayDo, MayLeave, AreAllowed, IsLegal}
 
 -- ---- Prefixes.
 

@@ -9,5 +9,6 @@ pub mod Views
 pub mod Permits
 pub mod Legal
 pub mod LegalLaws
+pub mod Finals
 pub mod Seen
 pub mod Grounds

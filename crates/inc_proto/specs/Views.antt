@@ -62,12 +62,13 @@ abbrev pub grown : Op × Reply → Option Steps → Option Steps
 grown step None = None
 grown step (Some steps) = Some (step ∷ steps)
 
-abbrev pub begun : Option Steps → Option Steps
-begun None = Some []
-begun (Some steps) = Some steps
+-- a lock is got, or got again
+abbrev pub begun : Op × Reply → Option Steps → Option Steps
+begun step None = Some []
+begun step (Some steps) = Some (step ∷ steps)
 
 abbrev pub since_after : ℕ → Op × Reply → Option Steps → Option Steps
-since_after h (TryLock handle exclusive, Got) before = if handle == h then begun before else grown (TryLock handle exclusive, Got) before
+since_after h (TryLock handle exclusive, Got) before = if handle == h then begun (TryLock handle exclusive, Got) before else grown (TryLock handle exclusive, Got) before
 since_after h (Close handle, Done) before = if handle == h then None else grown (Close handle, Done) before
 since_after h step before = grown step before
 
@@ -77,7 +78,7 @@ since h [] = None
 since h (step ∷ steps) = since_after h step (since h steps)
 
 abbrev pub alone_after : ℕ → Op × Reply → Option Steps → Option Steps
-alone_after h (TryLock handle true, Got) before = if handle == h then begun before else grown (TryLock handle true, Got) before
+alone_after h (TryLock handle true, Got) before = if handle == h then begun (TryLock handle true, Got) before else grown (TryLock handle true, Got) before
 alone_after h (TryLock handle false, Got) before = if handle == h then None else grown (TryLock handle false, Got) before
 alone_after h (Close handle, Done) before = if handle == h then None else grown (Close handle, Done) before
 alone_after h step before = grown step before

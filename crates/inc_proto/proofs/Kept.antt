@@ -172,10 +172,6 @@ kept_did files h room F G ss running who op reply kept e may step =
       few = subst (λ n. n < 2 ^ 32) (sym (length-set ss who new)) kept.few;
     }
 
--- a session that runs counts one
-counts_one : {ss : List Enrolled} {who : ℕ} (e : Enrols ss who) (d : Enrolled) → cond (get_or ss who d).runs 1 0 ≡ 1
-counts_one e d = ap (λ one. cond one.runs 1 0) (enrolled_at e d) ∙ ap (λ b. cond b 1 0) e.runs
-
 -- one session less runs
 less : {a b x y r : ℕ} → a + x ≡ b + y → x ≡ 1 → y ≡ 0 → r ≡ b → (r - 1 ≡ a) × (0 < r)
 less e is none counted = (omega arith, omega arith)
@@ -191,7 +187,9 @@ kept_left files h room F ss running who during cut kept e may =
     let itself : who == who ≡ true = eq-eqb who who refl in
     let here : Fits (Left who during cut ∷ h) who (Some new) = (was.0, was.1, rw itself refl) in
     let sums = sum_by-set (λ one. cond one.runs 1 0) ss who new e.one (enrolled_within e) in
-    let old = counts_one e e.one in
+    let its : cond (get_or ss who e.one).runs 1 0 ≡ cond e.one.runs 1 0 = ap (λ one. cond one.runs 1 0) (enrolled_at e e.one) in
+    let runs : cond e.one.runs 1 0 ≡ 1 = ap (λ b. cond b 1 0) e.runs in
+    let old : cond (get_or ss who e.one).runs 1 0 ≡ 1 = its ∙ runs in
     record {
       leads = (F, kept.leads, refl);
       allowed = (kept.allowed, may);
@@ -210,7 +208,9 @@ pub kept_room : {files : Files} {h : List Event} {room : ℕ} {F : State} {ss : 
 kept_room {ss = ss} {who = who} kept e =
     let new : Enrolled = record { view = e.one.view; runs = false } in
     let sums = sum_by-set (λ one. cond one.runs 1 0) ss who new e.one (enrolled_within e) in
-    let old = counts_one e e.one in
+    let its : cond (get_or ss who e.one).runs 1 0 ≡ cond e.one.runs 1 0 = ap (λ one. cond one.runs 1 0) (enrolled_at e e.one) in
+    let runs : cond e.one.runs 1 0 ≡ 1 = ap (λ b. cond b 1 0) e.runs in
+    let old : cond (get_or ss who e.one).runs 1 0 ≡ 1 = its ∙ runs in
     let more = (less sums old refl kept.counted).1 in
     (subst (λ n. 0 < n) (sym kept.room_is) more, more)
 

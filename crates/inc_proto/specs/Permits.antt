@@ -51,7 +51,7 @@ HoldsOpened krate n steps h after = (opening h steps ≡ Some (Opened krate (loc
 
 -- the directory of that name isn't one that it published itself
 abbrev pub IsOthers : Text → SessionName → Steps → Type 0
-IsOthers krate n steps = (hash : ℕ) (files : List (Text × Known)) → dir steps ≢ Published krate (final_text n hash) files
+IsOthers krate n steps = (hash : ℕ) (files : List (Text × Known)) → IsHash hash → dir steps ≢ Published krate (final_text n hash) files
 
 -- no directory of that name is among these, neither the working one nor a finalised one
 abbrev pub HasNoDir : SessionName → List Text → Type 0

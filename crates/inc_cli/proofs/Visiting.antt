@@ -4,33 +4,36 @@ use Rattle.std.specs.Prelude.{Option, List}
 use Rattle.inc_base.specs.declared.job.Job.{Job}
 use Rattle.inc_proto.specs.declared.event.Event.{Event}
 use Rattle.inc_proto.specs.declared.event.Event.TheVariants.{Begin, Left}
-use Rattle.inc_proto.specs.Events.{Steps, did}
-use Rattle.inc_proto.specs.Growth.{TellsBy, TellsOn}
+use Rattle.inc_proto.specs.Events.{Steps, did, latest}
+use Rattle.inc_proto.specs.Growth.{TellsBy, TellsOn, AddsOne}
 use Rattle.inc_proto.specs.GrowthLaws.{tells_nothing, tells_then, tells_both, tells_later}
 use Rattle.inc_session.specs.Order.{Plan, IsPathSoFar}
 use Rattle.inc_session.specs.Machine.{Going, HasMade}
-use Rattle.inc_cli.specs.Visits.{HasGone, HasCome}
-use Rattle.inc_cli.specs.Run.{HasVisited}
+use Rattle.inc_dir.specs.Promises.{Could}
+use Rattle.inc_cli.specs.Visits.{HasGrown, HasGone, HasCome}
+use Rattle.inc_cli.specs.Run.{Telling, HasVisited}
 
-module _ (own : ℕ) (job : Job) (old entered there new : Option (List Event)) (begun : TellsOn own old entered (Begin own job ∷ [])) (left : TellsOn own there new (Left own None 0 ∷ [])) where
-  entering : TellsBy own old entered (Begin own job ∷ [])
-  entering = tells_then own old old entered (Begin own job) [] (tells_nothing own old) begun
+module _ (before own : List ℕ) (job : Job) (old entered there new : Option (List Event)) (one : AddsOne old before own)
+    (begun : TellsOn Could own old entered (Begin (latest own) job ∷ [])) (left : TellsOn Could own there new (Left (latest own) None 0 ∷ [])) where
+  entering : TellsBy Could own old entered (Begin (latest own) job ∷ [])
+  entering = tells_then Could own old old entered (Begin (latest own) job) [] (tells_nothing Could own old) begun
+
+  visits : (steps : Steps) → HasGrown own steps entered there → HasVisited job steps (record { told = old; own = before }) (record { told = new; own = own })
+  visits steps grown = record {
+    one = one;
+    told_steps = grown.told_steps;
+    are_told = grown.are_told;
+    told = tells_then Could own old grown.mid new (Left (latest own) None 0) (did (latest own) grown.told_steps ++ Begin (latest own) job ∷ [])
+        (tells_both Could own old entered grown.mid (Begin (latest own) job ∷ []) (did (latest own) grown.told_steps) entering grown.told)
+        (tells_later Could own grown.mid there new (Left (latest own) None 0 ∷ []) grown.rest left);
+  }
 
   -- it ended
   pub has_visited : (session : Going) → (steps : Steps) × HasCome own session steps entered there
-      → (steps : Steps) × HasVisited own job steps old new × HasMade session steps × (session.op ≡ None)
-  has_visited session come =
-      (come.0, record { told = tells_then own old there new (Left own None 0) (did own come.0 ++ Begin own job ∷ []) (tells_both own old entered there (Begin own job ∷ []) (did own come.0) entering come.1.told) left }, come.1.made, come.1.ended)
+      → (steps : Steps) × HasVisited job steps (record { told = old; own = before }) (record { told = new; own = own }) × HasMade session steps × (session.op ≡ None)
+  has_visited session come = (come.0, visits come.0 come.1.grown, come.1.made, come.1.ended)
 
   -- it stopped on its way
   pub has_left : (plan : Plan) → (steps : Steps) × HasGone own plan steps entered there
-      → (steps : Steps) × HasVisited own job steps old new × IsPathSoFar plan steps
-  has_left plan gone = (
-    gone.0,
-    record {
-      told = tells_then own old gone.1.mid new (Left own None 0) (did own gone.0 ++ Begin own job ∷ [])
-          (tells_both own old entered gone.1.mid (Begin own job ∷ []) (did own gone.0) entering gone.1.told)
-          (tells_later own gone.1.mid there new (Left own None 0 ∷ []) gone.1.rest left);
-    },
-    gone.1.far,
-  )
+      → (steps : Steps) × HasVisited job steps (record { told = old; own = before }) (record { told = new; own = own }) × IsPathSoFar plan steps
+  has_left plan gone = (gone.0, visits gone.0 gone.1.grown, gone.1.far)

@@ -1,12 +1,9 @@
 -- The parts of a build, and how each of them is refused.
 use Rattle.std.specs.Prelude.{◌≡◌, ◌⊎◌, ℕ, List, [], Option, Some, None, IfSome}
-use Rattle.std.specs.Io.KnownBytes.{IsAtEnd}
 use Rattle.inc_base.specs.Meters.{ticked}
-use Rattle.inc_base.specs.Outside.{Rose}
+use Rattle.inc_base.specs.Outside.{IsReadOut, Rose}
 use Rattle.inc_base.specs.declared.job.Job.{Job}
-use Rattle.inc_proto.specs.declared.event.Event.{Event}
 use Rattle.inc_proto.specs.Events.{Steps}
-use Rattle.inc_proto.specs.Growth.{TellsOn}
 use Rattle.inc_session.specs.declared.outcome.Outcome.{Outcome}
 use Rattle.inc_session.specs.declared.outcome.Outcome.TheVariants.{Built, DiskFault, Disturbed as DisturbedBy}
 use Rattle.inc_session.specs.Order.{Plan, IsWholePath, IsCutByFault, IsPathSoFar}
@@ -16,7 +13,7 @@ use Rattle.rs_literal.specs.Object.{literal_image}
 use Rattle.inc_cli.specs.declared.status.Status.{Status}
 use Rattle.inc_cli.specs.declared.status.Status.TheVariants.{BadWords, DirectoryFault, SourceFault, OutOfMemory, Disturbed, NotBuilt}
 use Rattle.inc_cli.specs.Words.{AreRefused}
-use Rattle.inc_cli.specs.Run.{HasVisited, IsDisturbed}
+use Rattle.inc_cli.specs.Run.{Telling, HasVisited, HasNotBegun, IsDisturbed}
 
 -- why the words give no crate
 abbrev pub FailsWords : Status → List (List ℕ) → Type 0
@@ -27,7 +24,7 @@ FailsWords status words = ⊥
 -- these bytes are all that the source had left, and print the number
 pub record IsText (text : List ℕ) (number : ℕ) (old new : Option (List ℕ)) : Type 0 where
   pub whole : IfSome old (λ left. text ≡ left)
-  pub read : IsAtEnd new
+  pub read : IsReadOut old new
   pub literal : IsLiteral text number
 
 -- why the source gives no text
@@ -38,9 +35,9 @@ FailsText OutOfMemory left before now = Unit {0}
 FailsText status left before now = ⊥
 
 -- a session of this job visited the directory, and its steps are as the statement has it
-pub record Visited (IsEnd : Plan → Steps → Type 0) (job : Job) (number own : ℕ) (old new : Option (List Event)) : Type 0 where
+pub record Visited (IsEnd : Plan → Steps → Type 0) (job : Job) (number : ℕ) (old new : Telling) : Type 0 where
   pub steps : Steps
-  pub visited : HasVisited own job steps old new
+  pub visited : HasVisited job steps old new
   pub ends : IsEnd (plan_of job number) steps
 
 -- what is built of a text that prints this number: its image, and its one unit emitted
@@ -50,18 +47,17 @@ pub record IsBuilt (image : List ℕ) (emitted units number : ℕ) : Type 0 wher
   pub units_is : units ≡ 1
 
 -- it published, and this is what it built
-pub record HasSession (job : Job) (number own : ℕ) (image : List ℕ) (emitted units : ℕ) (old new : Option (List Event)) (before now : ℕ) : Type 0 where
-  pub visit : Visited IsWholePath job number own old new
+pub record HasSession (job : Job) (number : ℕ) (image : List ℕ) (emitted units : ℕ) (old new : Telling) (before now : ℕ) : Type 0 where
+  pub visit : Visited IsWholePath job number old new
   pub built : IsBuilt image emitted units number
   pub meter : now ≡ ticked before
 
 -- why it published nothing
-abbrev pub FailsSession : Status → Job → ℕ → ℕ → Option (List Event) → Option (List Event) → ℕ → ℕ → Type 0
-FailsSession DirectoryFault job number own old new before now = Visited IsCutByFault job number own old new × Rose before now
-FailsSession Disturbed job number own old new before now = Visited IsDisturbed job number own old new
-FailsSession OutOfMemory job number own old new before now =
-    ((other : ℕ) × TellsOn other old new []) ⊎ Visited IsPathSoFar job number own old new
-FailsSession status job number own old new before now = ⊥
+abbrev pub FailsSession : Status → Job → ℕ → Telling → Telling → ℕ → ℕ → Type 0
+FailsSession DirectoryFault job number old new before now = Visited IsCutByFault job number old new × Rose before now
+FailsSession Disturbed job number old new before now = Visited IsDisturbed job number old new
+FailsSession OutOfMemory job number old new before now = HasNotBegun old new ⊎ Visited IsPathSoFar job number old new
+FailsSession status job number old new before now = ⊥
 
 -- the outcome is this image, with so many units emitted, of so many
 abbrev pub HasOutcome : Option Outcome → List ℕ → ℕ → ℕ → Type 0

@@ -1,17 +1,18 @@
 -- What a top call leaves, by how it ends.
 use Rattle.std.specs.Prelude.{◌≡◌, ◌⊎◌, ℕ, ◌++◌, List, [], ◌∷◌, Option, Some, None, IfSome}
-use Rattle.std.specs.Io.KnownBytes.{Appends, IsAtEnd}
+use Rattle.std.specs.Io.KnownBytes.{Appends}
 use Rattle.inc_base.specs.Meters.{ticked}
-use Rattle.inc_base.specs.Outside.{AppendsFront, Rose}
+use Rattle.inc_base.specs.Outside.{AppendsFront, IsReadOut, Rose}
 use Rattle.inc_base.specs.declared.job.Job.{Job}
 use Rattle.inc_proto.specs.declared.event.Event.{Event}
 use Rattle.inc_proto.specs.declared.event.Event.TheVariants.{Begin, Left}
 use Rattle.inc_fs.specs.State.{State}
 use Rattle.inc_fs.specs.declared.op.Op.{Op}
 use Rattle.inc_fs.specs.declared.op.Reply.{Reply}
-use Rattle.inc_proto.specs.Events.{Steps, did, own_steps}
-use Rattle.inc_proto.specs.Growth.{TellsBy, TellsOn}
+use Rattle.inc_proto.specs.Events.{Steps, did, latest, own_steps}
+use Rattle.inc_proto.specs.Growth.{TellsBy, TellsOn, AddsOne}
 use Rattle.inc_proto.specs.Leads.{LeadsTo}
+use Rattle.inc_dir.specs.Promises.{Could, IsRefusal}
 use Rattle.inc_session.specs.Order.{Plan, IsWholePath, IsCutByFault, IsPathSoFar, IsDisturbedBy}
 use Rattle.inc_session.specs.Machine.{plan_of}
 use Rattle.inc_session.specs.Published.{whole_run, Publishes}
@@ -31,32 +32,53 @@ pub record IsJobOf (words : List (List ℕ)) (left : Option (List ℕ)) (job : J
   pub text : IfSome left (λ text. job.text ≡ text)
   pub literal : IsLiteral job.text number
 
--- A session has visited the directory: where the history is told, it grew by the session's beginning, these steps and
--- its leaving, with others' events before each.
-pub record HasVisited (own : ℕ) (job : Job) (steps : Steps) (old new : Option (List Event)) : Type 0 where
-  pub told : TellsBy own old new (Left own None 0 ∷ (did own steps ++ Begin own job ∷ []))
+-- What a directory tells: its history, and the numbers of its own sessions, the latest first.
+pub record Telling : Type 0 where
+  pub told : Option (List Event)
+  pub own : List ℕ
+
+-- the number of its latest own session
+abbrev pub session_of : Telling → ℕ
+session_of telling = latest telling.own
+
+-- The told steps are all that the session was answered, but for a renaming that the directory refused, which was the last.
+abbrev pub AreTold : Steps → Steps → Type 0
+AreTold steps told = (told ≡ steps) ⊎ ((op : Op) × (reply : Reply) × IsRefusal op reply × (steps ≡ (op, reply) ∷ told))
+
+-- A session of this job has visited the directory. Where the history is told, exactly one number was put before the own
+-- ones, and the history grew by this session's beginning, its told steps and its leaving, with others' events before each.
+pub record HasVisited (job : Job) (steps : Steps) (old new : Telling) : Type 0 where
+  pub one : AddsOne old.told old.own new.own
+  pub told_steps : Steps
+  pub are_told : AreTold steps told_steps
+  pub told : TellsBy Could new.own old.told new.told (Left (session_of new) None 0 ∷ (did (session_of new) told_steps ++ Begin (session_of new) job ∷ []))
+
+-- No session began. Where the history is told, it grew by others' events alone.
+pub record HasNotBegun (old new : Telling) : Type 0 where
+  pub own : new.own ≡ old.own
+  pub others : TellsOn Could old.own old.told new.told []
 
 -- A session of the job of the words and the text visited the directory, and its steps are as the statement has it. Where
--- the history is told, they are what it has as the session's own.
-pub record Visit (IsEnd : Plan → Steps → Type 0) (words : List (List ℕ)) (left : Option (List ℕ)) (own : ℕ) (old new : Option (List Event)) : Type 0 where
+-- the history is told, the told ones of them are what it has as the session's own.
+pub record Visit (IsEnd : Plan → Steps → Type 0) (words : List (List ℕ)) (left : Option (List ℕ)) (old new : Telling) : Type 0 where
   pub job : Job
   pub number : ℕ
   pub steps : Steps
   pub of_job : IsJobOf words left job number
-  pub visited : HasVisited own job steps old new
+  pub visited : HasVisited job steps old new
   pub ends : IsEnd (plan_of job number) steps
-  pub told : IfSome new (λ history. own_steps own history ≡ steps)
+  pub told : IfSome new.told (λ history. own_steps (session_of new) history ≡ visited.told_steps)
 
 -- the last of the steps disagrees with the others
 abbrev pub IsDisturbed : Plan → Steps → Type 0
 IsDisturbed plan steps = (asked : Op) × (reply : Reply) × IsDisturbedBy plan asked reply steps
 
--- What a call works on: the bytes that the source has left and the count of its faults, the history that the directory
--- tells and the count of its faults, and the meter.
+-- What a call works on: the bytes that the source has left and the count of its faults, what the directory tells and the
+-- count of its faults, and the meter.
 pub record Inputs : Type 0 where
   pub left : Option (List ℕ)
   pub source_faults : ℕ
-  pub told : Option (List Event)
+  pub dir : Telling
   pub dir_faults : ℕ
   pub meter : ℕ
 
@@ -69,21 +91,22 @@ pub record Outputs : Type 0 where
 
 -- the directory and the meter are as before
 pub record KeepsDir (old new : Inputs) : Type 0 where
-  pub told : new.told ≡ old.told
+  pub dir : new.dir ≡ old.dir
   pub faults : new.dir_faults ≡ old.dir_faults
   pub meter : new.meter ≡ old.meter
 
--- A session of the job made the whole path, and its one unit was emitted. The text was read to its end. Where the told
--- history grew by its own events alone, each state that it leads to now was led to from one before, to which the session
--- added its lock file and its finalised directory with the one object, and nothing else.
-pub record HasPublished (words : List (List ℕ)) (own : ℕ) (old new : Inputs) : Type 0 where
-  pub visit : Visit IsWholePath words old.left own old.told new.told
-  pub read : IsAtEnd new.left
+-- A session of the job made the whole path, all of it told, and its one unit was emitted. The text was read to its end.
+-- Where the told history grew by its own events alone, each state that it leads to now was led to from one before, to which
+-- the session added its lock file and its finalised directory with the one object, and nothing else.
+pub record HasPublished (words : List (List ℕ)) (old new : Inputs) : Type 0 where
+  pub visit : Visit IsWholePath words old.left old.dir new.dir
+  pub all : visit.visited.told_steps ≡ visit.steps
+  pub read : IsReadOut old.left new.left
   pub meter : new.meter ≡ ticked old.meter
-  pub alone : (history : List Event) (G : State) → old.told ≡ Some history
-      → new.told ≡ Some (whole_run own visit.job (plan_of visit.job visit.number) visit.ends.found visit.ends.closed history)
-      → LeadsTo (whole_run own visit.job (plan_of visit.job visit.number) visit.ends.found visit.ends.closed history) G
-      → Publishes own (plan_of visit.job visit.number) visit.ends.found history G
+  pub alone : (history : List Event) (G : State) → old.dir.told ≡ Some history
+      → new.dir.told ≡ Some (whole_run (session_of new.dir) visit.job (plan_of visit.job visit.number) visit.ends.found visit.ends.closed history)
+      → LeadsTo (whole_run (session_of new.dir) visit.job (plan_of visit.job visit.number) visit.ends.found visit.ends.closed history) G
+      → Publishes (session_of new.dir) (plan_of visit.job visit.number) visit.ends.found history G
 
 -- The words are refused, and nothing is touched.
 pub record HasRefusedWords (words : List (List ℕ)) (old new : Inputs) : Type 0 where
@@ -93,9 +116,9 @@ pub record HasRefusedWords (words : List (List ℕ)) (old new : Inputs) : Type 0
   pub source : new.source_faults ≡ old.source_faults
 
 -- The directory's count rose at a fault that cut the session's path, before its lock was to be closed.
-pub record HasFaulted (words : List (List ℕ)) (own : ℕ) (old new : Inputs) : Type 0 where
-  pub visit : Visit IsCutByFault words old.left own old.told new.told
-  pub read : IsAtEnd new.left
+pub record HasFaulted (words : List (List ℕ)) (old new : Inputs) : Type 0 where
+  pub visit : Visit IsCutByFault words old.left old.dir new.dir
+  pub read : IsReadOut old.left new.left
   pub faults : Rose old.dir_faults new.dir_faults
 
 -- The source's count rose, and the directory isn't touched.
@@ -105,14 +128,14 @@ pub record HasFailedToRead (words : List (List ℕ)) (old new : Inputs) : Type 0
   pub faults : Rose old.source_faults new.source_faults
   pub keeps : KeepsDir old new
 
--- There is no memory. Nothing of its own is in the history, or a session that left where it stood.
-pub record HasNoMemory (words : List (List ℕ)) (own : ℕ) (old new : Inputs) : Type 0 where
-  pub visit : ((other : ℕ) × TellsOn other old.told new.told []) ⊎ Visit IsPathSoFar words old.left own old.told new.told
+-- There is no memory. No session began, or one left where it stood.
+pub record HasNoMemory (words : List (List ℕ)) (old new : Inputs) : Type 0 where
+  pub visit : HasNotBegun old.dir new.dir ⊎ Visit IsPathSoFar words old.left old.dir new.dir
 
 -- The last of the session's own steps disagrees with the others.
-pub record HasDisturbed (words : List (List ℕ)) (own : ℕ) (old new : Inputs) : Type 0 where
-  pub visit : Visit IsDisturbed words old.left own old.told new.told
-  pub read : IsAtEnd new.left
+pub record HasDisturbed (words : List (List ℕ)) (old new : Inputs) : Type 0 where
+  pub visit : Visit IsDisturbed words old.left old.dir new.dir
+  pub read : IsReadOut old.left new.left
 
 -- What the source had left, where it tells, is no text of the form, and the directory isn't touched.
 pub record HasNotBuilt (words : List (List ℕ)) (old new : Inputs) : Type 0 where
@@ -122,14 +145,14 @@ pub record HasNotBuilt (words : List (List ℕ)) (old new : Inputs) : Type 0 whe
   pub keeps : KeepsDir old new
 
 -- why nothing is built, by status
-abbrev pub Refuses : Status → List (List ℕ) → ℕ → Inputs → Inputs → Type 0
-Refuses BadWords words own old new = HasRefusedWords words old new
-Refuses DirectoryFault words own old new = HasFaulted words own old new
-Refuses SourceFault words own old new = HasFailedToRead words old new
-Refuses OutOfMemory words own old new = HasNoMemory words own old new
-Refuses Disturbed words own old new = HasDisturbed words own old new
-Refuses NotBuilt words own old new = HasNotBuilt words old new
-Refuses status words own old new = ⊥
+abbrev pub Refuses : Status → List (List ℕ) → Inputs → Inputs → Type 0
+Refuses BadWords words old new = HasRefusedWords words old new
+Refuses DirectoryFault words old new = HasFaulted words old new
+Refuses SourceFault words old new = HasFailedToRead words old new
+Refuses OutOfMemory words old new = HasNoMemory words old new
+Refuses Disturbed words old new = HasDisturbed words old new
+Refuses NotBuilt words old new = HasNotBuilt words old new
+Refuses status words old new = ⊥
 
 -- `out` took this line, or, where its count rose, a front of it; `image` got nothing
 pub record WritesLine (line : List ℕ) (old new : Outputs) : Type 0 where
@@ -150,7 +173,7 @@ FailsToWrite image old new =
 
 -- A call that ends by this status: 0, it published and wrote all; 4, it published, and a sink failed; else it was refused
 -- for the status's cause, and wrote its line.
-abbrev pub Ends : Status → List (List ℕ) → ℕ → Inputs → Inputs → Outputs → Outputs → Type 0
-Ends Done words own old new before after = (published : HasPublished words own old new) × WritesAll (literal_image published.visit.number) before after
-Ends SinkFault words own old new before after = (published : HasPublished words own old new) × FailsToWrite (literal_image published.visit.number) before after
-Ends status words own old new before after = Refuses status words own old new × WritesLine (line_of status) before after
+abbrev pub Ends : Status → List (List ℕ) → Inputs → Inputs → Outputs → Outputs → Type 0
+Ends Done words old new before after = (published : HasPublished words old new) × WritesAll (literal_image published.visit.number) before after
+Ends SinkFault words old new before after = (published : HasPublished words old new) × FailsToWrite (literal_image published.visit.number) before after
+Ends status words old new before after = Refuses status words old new × WritesLine (line_of status) before after

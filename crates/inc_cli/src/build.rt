@@ -77,8 +77,8 @@ fn publish<D: Dir>(
     requires free { D.runs dir.old ≡ false }
     requires small { number < 2 ^ 63 }
     ensures free { D.runs dir.new ≡ false }
-    ensures ok { IfOk result (λ built. HasSession job number (D.number dir.new) built.image built.emitted built.units (D.told dir.old) (D.told dir.new) meter.old meter.new) }
-    ensures err { IfErr result (λ status. FailsSession status job number (D.number dir.new) (D.told dir.old) (D.told dir.new) (D.faults dir.old) (D.faults dir.new)) }
+    ensures ok { IfOk result (λ built. HasSession job number built.image built.emitted built.units (record { told = D.told dir.old; own = D.own dir.old }) (record { told = D.told dir.new; own = D.own dir.new }) meter.old meter.new) }
+    ensures err { IfErr result (λ status. FailsSession status job number (record { told = D.told dir.old; own = D.own dir.old }) (record { told = D.told dir.new; own = D.own dir.new }) (D.faults dir.old) (D.faults dir.new)) }
 {
     let Ok(session) = Session::new(alloc, &job, number) else {
         return Err(Status::OutOfMemory);
@@ -100,13 +100,13 @@ pub(crate) fn build<S: Source, D: Dir>(
 ) -> Result<Built, Status>
     requires { D.runs dir.old ≡ false }
     ensures free { D.runs dir.new ≡ false }
-    ensures ok { IfOk result (λ built. (published : HasPublished (map (λ word. word.now) words.now) (D.number dir.new)
-        (record { left = S.left src.old; source_faults = S.faults src.old; told = D.told dir.old; dir_faults = D.faults dir.old; meter = meter.old })
-        (record { left = S.left src.new; source_faults = S.faults src.new; told = D.told dir.new; dir_faults = D.faults dir.new; meter = meter.new }))
+    ensures ok { IfOk result (λ built. (published : HasPublished (map (λ word. word.now) words.now)
+        (record { left = S.left src.old; source_faults = S.faults src.old; dir = record { told = D.told dir.old; own = D.own dir.old }; dir_faults = D.faults dir.old; meter = meter.old })
+        (record { left = S.left src.new; source_faults = S.faults src.new; dir = record { told = D.told dir.new; own = D.own dir.new }; dir_faults = D.faults dir.new; meter = meter.new }))
         × IsBuilt built.image built.emitted built.units published.visit.number) }
-    ensures err { IfErr result (λ status. Refuses status (map (λ word. word.now) words.now) (D.number dir.new)
-        (record { left = S.left src.old; source_faults = S.faults src.old; told = D.told dir.old; dir_faults = D.faults dir.old; meter = meter.old })
-        (record { left = S.left src.new; source_faults = S.faults src.new; told = D.told dir.new; dir_faults = D.faults dir.new; meter = meter.new })) }
+    ensures err { IfErr result (λ status. Refuses status (map (λ word. word.now) words.now)
+        (record { left = S.left src.old; source_faults = S.faults src.old; dir = record { told = D.told dir.old; own = D.own dir.old }; dir_faults = D.faults dir.old; meter = meter.old })
+        (record { left = S.left src.new; source_faults = S.faults src.new; dir = record { told = D.told dir.new; own = D.own dir.new }; dir_faults = D.faults dir.new; meter = meter.new })) }
 {
     let krate = match crate_word(alloc, words) {
         Ok(krate) => krate,

@@ -30,9 +30,9 @@ pub fn run<S: Source, D: Dir, O: Sink, I: Sink>(
     ensures free { D.runs dir.new ≡ false }
 
     // It ends by a status, and what holds then is that status's case of `Ends`.
-    ensures ends { (status : Status) × (result ≡ code_of status) × Ends status (map (λ word. word.now) words.now) (D.number dir.new)
-        (record { left = S.left src.old; source_faults = S.faults src.old; told = D.told dir.old; dir_faults = D.faults dir.old; meter = meter.old })
-        (record { left = S.left src.new; source_faults = S.faults src.new; told = D.told dir.new; dir_faults = D.faults dir.new; meter = meter.new })
+    ensures ends { (status : Status) × (result ≡ code_of status) × Ends status (map (λ word. word.now) words.now)
+        (record { left = S.left src.old; source_faults = S.faults src.old; dir = record { told = D.told dir.old; own = D.own dir.old }; dir_faults = D.faults dir.old; meter = meter.old })
+        (record { left = S.left src.new; source_faults = S.faults src.new; dir = record { told = D.told dir.new; own = D.own dir.new }; dir_faults = D.faults dir.new; meter = meter.new })
         (record { out = O.held out.old; out_faults = O.faults out.old; image = I.held image.old; image_faults = I.faults image.old })
         (record { out = O.held out.new; out_faults = O.faults out.new; image = I.held image.new; image_faults = I.faults image.new }) }
 {

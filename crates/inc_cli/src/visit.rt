@@ -1,11 +1,10 @@
 ghost use Rattle.std.specs.Prelude.{◌≡◌, ◌⊎◌, ◌≤◌, ◌<◌, ℕ, [], true, false, None, Some, OnOk, OnErr};
 ghost use Rattle.inc_base.specs.Outside.{Rose};
 ghost use Rattle.inc_proto.specs.Events.{Steps};
-ghost use Rattle.inc_proto.specs.Growth.{TellsOn};
 ghost use Rattle.inc_session.specs.Order.{IsPathSoFar};
 ghost use Rattle.inc_session.specs.Machine.{HasMade, meter_at};
 ghost use Rattle.inc_session.specs.declared.outcome.Outcome.TheVariants.{DiskFault};
-ghost use Rattle.inc_cli.specs.Run.{HasVisited};
+ghost use Rattle.inc_cli.specs.Run.{HasVisited, HasNotBegun};
 ghost use Rattle.inc_cli.specs.Visits.{HasGone, HasCome};
 
 use inc_base::{Copied, Job, Memory, Meter};
@@ -18,10 +17,10 @@ fn drive<D: Dir>(dir: &mut D, session: &mut Session, meter: &mut Meter) -> Resul
     requires fresh { HasMade session.old [] }
     requires open { session.old.outcome ≡ None }
     ensures runs { D.runs dir.new ≡ true }
-    ensures number { D.number dir.new ≡ D.number dir.old }
+    ensures own { D.own dir.new ≡ D.own dir.old }
     ensures plan { OnOk result ((session.new.plan ≡ session.old.plan) × (session.new.number ≡ session.old.number)) }
-    ensures ok { OnOk result ((steps : Steps) × HasCome (D.number dir.old) session.new steps (D.told dir.old) (D.told dir.new)) }
-    ensures err { OnErr result ((steps : Steps) × HasGone (D.number dir.old) session.old.plan steps (D.told dir.old) (D.told dir.new)) }
+    ensures ok { OnOk result ((steps : Steps) × HasCome (D.own dir.old) session.new steps (D.told dir.old) (D.told dir.new)) }
+    ensures err { OnErr result ((steps : Steps) × HasGone (D.own dir.old) session.old.plan steps (D.told dir.old) (D.told dir.new)) }
     ensures faults { D.faults dir.old ≤ D.faults dir.new }
     ensures cause { OnOk result (session.new.outcome ≡ Some DiskFault → Rose (D.faults dir.old) (D.faults dir.new)) }
     ensures meter { (start : ℕ) → meter.old ≡ meter_at session.old.stage start → OnOk result (meter.new ≡ meter_at session.new.stage start) }
@@ -48,9 +47,9 @@ pub(crate) fn visit<D: Dir>(
     requires open { session.old.outcome ≡ None }
     ensures free { D.runs dir.new ≡ false }
     ensures plan { OnOk result ((session.new.plan ≡ session.old.plan) × (session.new.number ≡ session.old.number)) }
-    ensures ok { OnOk result ((steps : Steps) × HasVisited (D.number dir.new) job steps (D.told dir.old) (D.told dir.new) × HasMade session.new steps × (session.new.op ≡ None)) }
-    ensures err { OnErr result (((other : ℕ) × TellsOn other (D.told dir.old) (D.told dir.new) [])
-        ⊎ ((steps : Steps) × HasVisited (D.number dir.new) job steps (D.told dir.old) (D.told dir.new) × IsPathSoFar session.old.plan steps)) }
+    ensures ok { OnOk result ((steps : Steps) × HasVisited job steps (record { told = D.told dir.old; own = D.own dir.old }) (record { told = D.told dir.new; own = D.own dir.new }) × HasMade session.new steps × (session.new.op ≡ None)) }
+    ensures err { OnErr result (HasNotBegun (record { told = D.told dir.old; own = D.own dir.old }) (record { told = D.told dir.new; own = D.own dir.new })
+        ⊎ ((steps : Steps) × HasVisited job steps (record { told = D.told dir.old; own = D.own dir.old }) (record { told = D.told dir.new; own = D.own dir.new }) × IsPathSoFar session.old.plan steps)) }
     ensures faults { D.faults dir.old ≤ D.faults dir.new }
     ensures cause { OnOk result (session.new.outcome ≡ Some DiskFault → Rose (D.faults dir.old) (D.faults dir.new)) }
     ensures meter { (start : ℕ) → meter.old ≡ meter_at session.old.stage start → OnOk result (meter.new ≡ meter_at session.new.stage start) }

@@ -3,8 +3,10 @@ ghost use Rattle.inc_base.specs.Outside.{Rose};
 ghost use Rattle.inc_fs.specs.Kinds.{IsKindOf};
 ghost use Rattle.inc_fs.specs.declared.op.Reply.TheVariants.{Fault};
 ghost use Rattle.inc_proto.specs.declared.event.Event.{Event};
-ghost use Rattle.inc_proto.specs.declared.event.Event.TheVariants.{Begin, Did, Left};
-ghost use Rattle.inc_proto.specs.Growth.{TellsOn};
+ghost use Rattle.inc_proto.specs.declared.event.Event.TheVariants.{Begin, Left};
+ghost use Rattle.inc_proto.specs.Events.{latest};
+ghost use Rattle.inc_proto.specs.Growth.{TellsOn, AddsOne};
+ghost use Rattle.inc_dir.specs.Promises.{Could, TellsStep};
 
 use inc_base::{Job, Memory};
 use inc_fs::{Op, Reply};
@@ -17,11 +19,12 @@ use inc_fs::{Op, Reply};
 pub trait Dir {
     ghost told: { Self → Option (List Event) };
 
-    /// Whether a session of its own runs.
-    ghost runs: { Self → Bool };
+    /// The numbers of its own sessions in the told history, the latest first. Where nothing is told it never
+    /// changes.
+    ghost own: { Self → List ℕ };
 
-    /// The number of that session in the history, which stays until the next one begins.
-    ghost number: { Self → ℕ };
+    /// Whether the latest of these sessions runs.
+    ghost runs: { Self → Bool };
 
     ghost faults: { Self → ℕ };
 
@@ -29,8 +32,10 @@ pub trait Dir {
     fn begin(&mut self, job: Job) -> Result<(), Memory>
         requires { runs self.old ≡ false }
         ensures runs { runs self.new ≡ is_ok result }
-        ensures ok { OnOk result (TellsOn (number self.new) (told self.old) (told self.new) (Begin (number self.new) job ∷ [])) }
-        ensures err { OnErr result (TellsOn (number self.old) (told self.old) (told self.new) []) }
+        ensures one { OnOk result (AddsOne (told self.old) (own self.old) (own self.new)) }
+        ensures none { OnErr result (own self.new ≡ own self.old) }
+        ensures ok { OnOk result (TellsOn Could (own self.new) (told self.old) (told self.new) (Begin (latest (own self.new)) job ∷ [])) }
+        ensures err { OnErr result (TellsOn Could (own self.old) (told self.old) (told self.new) []) }
         ensures faults { faults self.old ≤ faults self.new };
 
     /// Makes one step. The reply is one of the step's row, whatever the directory is; `Fault` comes only
@@ -38,10 +43,10 @@ pub trait Dir {
     fn act(&mut self, op: Op) -> Result<Reply, Memory>
         requires { runs self.old ≡ true }
         ensures runs { runs self.new ≡ true }
-        ensures number { number self.new ≡ number self.old }
+        ensures own { own self.new ≡ own self.old }
         ensures kind { IfOk result (λ reply. IsKindOf op reply) }
-        ensures ok { IfOk result (λ reply. TellsOn (number self.old) (told self.old) (told self.new) (Did (number self.old) op reply ∷ [])) }
-        ensures err { OnErr result (TellsOn (number self.old) (told self.old) (told self.new) []) }
+        ensures ok { IfOk result (λ reply. TellsStep (own self.old) (told self.old) (told self.new) op reply) }
+        ensures err { OnErr result (TellsOn Could (own self.old) (told self.old) (told self.new) []) }
         ensures faults { faults self.old ≤ faults self.new }
         ensures cause { IfOk result (λ reply. reply ≡ Fault → Rose (faults self.old) (faults self.new)) };
 
@@ -49,7 +54,7 @@ pub trait Dir {
     fn leave(&mut self)
         requires { runs self.old ≡ true }
         ensures runs { runs self.new ≡ false }
-        ensures number { number self.new ≡ number self.old }
-        ensures told { TellsOn (number self.old) (told self.old) (told self.new) (Left (number self.old) None 0 ∷ []) }
+        ensures own { own self.new ≡ own self.old }
+        ensures told { TellsOn Could (own self.old) (told self.old) (told self.new) (Left (latest (own self.old)) None 0 ∷ []) }
         ensures faults { faults self.old ≤ faults self.new };
 }

@@ -4,9 +4,12 @@ ghost use Rattle.inc_fs.specs.State.{start};
 ghost use Rattle.inc_fs.specs.Step.{StepWith};
 ghost use Rattle.inc_fs.specs.Kinds.{IsKindOf};
 ghost use Rattle.inc_fs.specs.declared.op.Reply.TheVariants.{Fault};
-ghost use Rattle.inc_proto.specs.declared.event.Event.TheVariants.{Begin, Did, Left};
-ghost use Rattle.inc_proto.specs.Growth.{TellsOn};
-ghost use Rattle.inc_dir.specs.Memories.{chance_of, HasAnswered};
+ghost use Rattle.inc_proto.specs.declared.event.Event.TheVariants.{Begin, Left};
+ghost use Rattle.inc_proto.specs.Events.{latest};
+ghost use Rattle.inc_proto.specs.Growth.{TellsOn, AddsOne};
+ghost use Rattle.inc_proto.specs.Leads.{LeadsTo};
+ghost use Rattle.inc_dir.specs.Promises.{Could, TellsStep};
+ghost use Rattle.inc_dir.specs.Memories.{chance_of, sessions_of, session_of, with_begun, with_left, HasAnswered};
 
 use crate::dir::Dir;
 use crate::faults::faults_after;
@@ -40,15 +43,15 @@ impl Model for MemDir {
 
     ghost Value = { Remembering };
 
-    ghost view = { λ d. record { history = reverse d.history.0; state = d.fs; chances = d.chances; acts = d.acts; runs = d.runs; number = d.number; faults = d.faults } };
+    ghost view = { λ d. record { history = reverse d.history.0; state = d.fs; chances = d.chances; acts = d.acts; runs = d.runs; faults = d.faults } };
 
-    ghost invariant = { λ d. IsKept (reverse d.history.0) d.history.1 d.fs d.runs d.next };
+    ghost invariant = { λ d. IsKept (reverse d.history.0) d.history.1 d.fs d.runs d.next d.number };
 }
 
 impl MemDir {
     /// An empty directory, which takes these chances.
     pub fn empty(chances: List<Chance>) -> MemDir
-        ensures { result ≡ record { history = []; state = start; chances = chances; acts = 0; runs = false; number = 0; faults = 0 } }
+        ensures { result ≡ record { history = []; state = start; chances = chances; acts = 0; runs = false; faults = 0 } }
     {
         let alloc = chances.allocator();
         MemDir {
@@ -63,17 +66,19 @@ impl MemDir {
         }
     }
 
-    /// Its events so far, in the order in which they happened.
+    /// Its events so far, in the order in which they happened. They lead to its state.
     pub fn history(&self) -> &[Event]
-        ensures { reverse result.now ≡ self.now.history }
+        ensures value { reverse result.now ≡ self.now.history }
+        ensures leads { LeadsTo self.now.history self.now.state }
     {
         self.history.as_slice()
     }
 
-    /// Its history and its state.
+    /// Its history, and the state that this leads to.
     pub fn into_parts(self) -> (History, Fs)
         ensures history { reverse result.0 ≡ self.history }
         ensures state { result.1 ≡ self.state }
+        ensures leads { LeadsTo self.history self.state }
     {
         let MemDir {
             fs,
@@ -116,13 +121,25 @@ fn step(fs: &mut Fs, who: u32, op: &Op, chance: Chance) -> Result<(Reply, Reply)
 impl Dir for MemDir {
     ghost told = { λ d. Some d.history };
 
-    ghost runs = { λ d. d.runs };
+    ghost own = { sessions_of };
 
-    ghost number = { λ d. d.number };
+    ghost runs = { λ d. d.runs };
 
     ghost faults = { λ d. d.faults };
 
-    fn begin(&mut self, job: Job) -> Result<(), Memory> {
+    fn begin(&mut self, job: Job) -> Result<(), Memory>
+        requires { self.old.runs ≡ false }
+        ensures runs { self.new.runs ≡ is_ok result }
+        ensures one { OnOk result (AddsOne (Some self.old.history) (sessions_of self.old) (sessions_of self.new)) }
+        ensures none { OnErr result (sessions_of self.new ≡ sessions_of self.old) }
+        ensures ok { OnOk result (TellsOn Could (sessions_of self.new) (Some self.old.history) (Some self.new.history) (Begin (session_of self.new) job ∷ [])) }
+        ensures err { OnErr result (TellsOn Could (sessions_of self.old) (Some self.old.history) (Some self.new.history) []) }
+        ensures faults { self.old.faults ≤ self.new.faults }
+
+        // It is as before but for the session that began; after `Memory` it is as before.
+        ensures begun { OnOk result (self.new ≡ with_begun self.old job) }
+        ensures kept { OnErr result (self.new ≡ self.old) }
+    {
         let number = self.next;
         let room = if number == u32::MAX {
             Err(Memory)
@@ -143,10 +160,10 @@ impl Dir for MemDir {
     fn act(&mut self, op: Op) -> Result<Reply, Memory>
         requires { self.old.runs ≡ true }
         ensures runs { self.new.runs ≡ true }
-        ensures number { self.new.number ≡ self.old.number }
+        ensures own { sessions_of self.new ≡ sessions_of self.old }
         ensures kind { IfOk result (λ reply. IsKindOf op reply) }
-        ensures ok { IfOk result (λ reply. TellsOn self.old.number (Some self.old.history) (Some self.new.history) (Did self.old.number op reply ∷ [])) }
-        ensures err { OnErr result (TellsOn self.old.number (Some self.old.history) (Some self.new.history) []) }
+        ensures ok { IfOk result (λ reply. TellsStep (sessions_of self.old) (Some self.old.history) (Some self.new.history) op reply) }
+        ensures err { OnErr result (TellsOn Could (sessions_of self.old) (Some self.old.history) (Some self.new.history) []) }
         ensures faults { self.old.faults ≤ self.new.faults }
         ensures cause { IfOk result (λ reply. reply ≡ Fault → Rose self.old.faults self.new.faults) }
 
@@ -174,7 +191,16 @@ impl Dir for MemDir {
         }
     }
 
-    fn leave(&mut self) {
+    fn leave(&mut self)
+        requires { self.old.runs ≡ true }
+        ensures runs { self.new.runs ≡ false }
+        ensures own { sessions_of self.new ≡ sessions_of self.old }
+        ensures told { TellsOn Could (sessions_of self.old) (Some self.old.history) (Some self.new.history) (Left (session_of self.old) None 0 ∷ []) }
+        ensures faults { self.old.faults ≤ self.new.faults }
+
+        // It is as before but that the session left.
+        ensures left { self.new ≡ with_left self.old }
+    {
         self.history.push_kept(Event::Left(self.number, None, 0));
         self.fs.end(self.number);
         self.runs = false;

@@ -89,11 +89,19 @@ impl Dir for ReplayDir {
 
     ghost runs = { λ d. d.runs };
 
-    ghost number = { λ _. 0 };
+    ghost own = { λ _. [] };
 
     ghost faults = { λ d. d.faults };
 
-    fn begin(&mut self, job: Job) -> Result<(), Memory> {
+    fn begin(&mut self, job: Job) -> Result<(), Memory>
+        requires { self.old.runs ≡ false }
+        ensures runs { self.new.runs ≡ is_ok result }
+        ensures faults { self.old.faults ≤ self.new.faults }
+
+        // A session runs, and all else is as before.
+        ensures begun { OnOk result (self.new ≡ record self.old { runs = true }) }
+        ensures kept { OnErr result (self.new ≡ self.old) }
+    {
         drop(job);
         self.runs = true;
         Ok(())
@@ -116,7 +124,13 @@ impl Dir for ReplayDir {
         answer
     }
 
-    fn leave(&mut self) {
+    fn leave(&mut self)
+        requires { self.old.runs ≡ true }
+        ensures faults { self.old.faults ≤ self.new.faults }
+
+        // No session runs, and all else is as before.
+        ensures left { self.new ≡ record self.old { runs = false } }
+    {
         self.runs = false;
     }
 }

@@ -1,4 +1,4 @@
-ghost use Rattle.std.specs.Prelude.{◌≡◌, None, false, IfOk};
+ghost use Rattle.std.specs.Prelude.{◌≡◌, None, [], false, IfOk};
 
 use crate::folder::Folder;
 use crate::trouble::Trouble;
@@ -56,7 +56,7 @@ impl<R: Files<File = File> + AllocGlobal + Clock + Clone + Drop> Dir for RealDir
 
     ghost runs = { λ d. d.runs };
 
-    ghost number = { λ _. 0 };
+    ghost own = { λ _. [] };
 
     ghost faults = { λ d. d.faults };
 

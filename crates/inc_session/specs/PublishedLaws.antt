@@ -33,7 +33,8 @@ use Rattle.inc_fs.specs.Sound.{IsHeldBy, AreHeldBy, IsSound, step_sound}
 use Rattle.inc_fs.specs.Tidy.{IsTidy}
 use Rattle.inc_names.specs.Entries.{lock_text, working_text, final_text}
 use Rattle.inc_names.specs.EntryLaws.{lock_is_no_working, lock_is_no_final, working_is_no_final}
-use Rattle.inc_proto.specs.Events.{did, number_of}
+use Rattle.inc_proto.specs.Events.{did}
+use Rattle.inc_proto.specs.Growth.{IsOfOther}
 use Rattle.inc_proto.specs.LeadLaws.{leads_sound}
 use Rattle.inc_proto.specs.Leads.{LeadsTo, Happens}
 use Rattle.inc_proto.specs.declared.event.Event.{Event}
@@ -582,10 +583,6 @@ whole_publishes own job plan found closed history G leads =
     (leads_sound (did own ((asks_at plan found Close, closed) ∷ before plan found Close) ++ Begin own job ∷ history) leads.0 leads.1).tidy
 
 -- ---- A session of which a history says nothing has no handle.
-
--- an event of another session than this one
-abbrev pub IsOfOther : ℕ → Event → Type 0
-IsOfOther own event = number_of event ≢ own
 
 -- each open handle is another session's
 abbrev HasNone : ℕ → State → Type 0

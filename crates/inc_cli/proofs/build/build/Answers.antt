@@ -5,8 +5,8 @@ use Rattle.inc_cli.proofs.build.build.Goals as goal
 
 pub returns-clause-ok : goal.returns-clause-ok
 returns-clause-ok g c =
-    IfOk-weaker c.publish.result _ _ (λ built session. has_published _ _ _ _ _ _ c.in-Ok.ensures.ok refl refl c.in-Ok-text_of.ensures.ok built.image built.emitted built.units session) c.publish.ensures.ok
+    IfOk-weaker c.publish.result _ _ (λ built session. has_published _ _ _ _ _ c.in-Ok.ensures.ok refl refl c.in-Ok-text_of.ensures.ok built.image built.emitted built.units session) c.publish.ensures.ok
 
 pub returns-clause-err : goal.returns-clause-err
 returns-clause-err g c =
-    IfErr-weaker c.publish.result _ _ (λ status cause. is_refused _ _ _ _ _ _ c.in-Ok.ensures.ok refl refl c.in-Ok-text_of.ensures.ok status cause) c.publish.ensures.err
+    IfErr-weaker c.publish.result _ _ (λ status cause. is_refused _ _ _ _ _ c.in-Ok.ensures.ok refl refl c.in-Ok-text_of.ensures.ok status cause) c.publish.ensures.err

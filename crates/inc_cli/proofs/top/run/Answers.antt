@@ -7,7 +7,7 @@ pub returns-in_default-clause-ends : goal.returns-in_default-clause-ends
 returns-in_default-clause-ends g c =
     let built = c.in-Ok.ensures.ok in
     let refused = c.refuse-in_default.ensures in
-    (OutOfMemory, refused.code, (out_of_memory _ _ _ _ built.0, record { line_is = refused.line; image = refl; image_faults = refl }))
+    (OutOfMemory, refused.code, (out_of_memory _ _ _ built.0, record { line_is = refused.line; image = refl; image_faults = refl }))
 
 pub returns-in-Ok-deliver-clause-ends : goal.returns-in-Ok-deliver-clause-ends
 returns-in-Ok-deliver-clause-ends g c =

@@ -1,19 +1,23 @@
-use Rattle.std.proofs.Common.{◌≡◌, ◌∙◌, sym, Some}
+use Rattle.std.proofs.Common.{◌≡◌, ◌∙◌, sym, refl, Some}
 use Rattle.std.proofs.lemmas.Result.{err_from_is_err_and}
 use Rattle.inc_proto.specs.GrowthLaws.{tells_same}
+use Rattle.inc_dir.specs.Promises.{Could}
 use Rattle.inc_session.specs.MachineLaws.{fewer_left}
-use Rattle.inc_cli.proofs.Driving.{drives_on, goes_no_further, goes_so_far}
+use Rattle.inc_cli.proofs.Driving.{drives_first, drives_on, goes_no_further, goes_so_far}
 use Rattle.inc_cli.proofs.visit.drive.Goals as goal
+
+pub steps-init : goal.steps-init
+steps-init g c = record { runs = c.requires.running; own = refl; driving = drives_first _ _ _ _ _ c.requires.fresh c.requires.open }
 
 pub returns-in_err-asked-clause-err : goal.returns-in_err-asked-clause-err
 returns-in_err-asked-clause-err g c =
     let p = err_from_is_err_and c.from_residual.result c.from_residual.ensures.1 in
-    rw p.1 (goes_no_further _ _ _ c.in-Some.op.now _ _ _ _ _ _ _ c.steps.invariant.driving (sym c.in-Some.ensures) (tells_same _ _))
+    rw p.1 (goes_no_further _ _ _ c.in-Some.op.now _ _ _ _ _ _ _ c.steps.invariant.driving (sym c.in-Some.ensures) (tells_same Could _ _))
 
 pub returns-in_err-reply-clause-err : goal.returns-in_err-reply-clause-err
 returns-in_err-reply-clause-err g c =
     let p = err_from_is_err_and c.from_residual-in_err-reply.result c.from_residual-in_err-reply.ensures.1 in
-    let rest = rw c.steps.invariant.number at c.in_err-reply.ensures.err in
+    let rest = rw c.steps.invariant.own at c.in_err-reply.ensures.err in
     rw p.1 (goes_no_further _ _ _ c.in-Some.op.now _ _ _ _ _ _ _ c.steps.invariant.driving (sym c.in-Some.ensures) rest)
 
 pub steps-smaller : goal.steps-smaller
@@ -23,9 +27,9 @@ steps-smaller g c =
 pub steps-preserved : goal.steps-preserved
 steps-preserved g c =
     let asks : c.steps.session.op ≡ Some c.in_ok-asked.asked = cc (c.in-Some.ensures, c.in_ok-asked.ensures) in
-    let told = rw c.steps.invariant.number at c.in_ok-reply.ensures.ok in record {
+    let told = rw c.steps.invariant.own at c.in_ok-reply.ensures.ok in record {
       runs = c.in_ok-reply.ensures.runs;
-      number = c.in_ok-reply.ensures.number ∙ c.steps.invariant.number;
+      own = c.in_ok-reply.ensures.own ∙ c.steps.invariant.own;
       driving = rw c.in_ok-feed.ensures.ok (drives_on _ _ _ _ _ _ _ _ _ _ _ _ _ _ c.steps.invariant.driving asks told
           c.in_ok-reply.ensures.faults c.in_ok-reply.ensures.cause c.in_ok-feed.ensures.meter);
     }
@@ -34,5 +38,5 @@ pub returns-in_err-feed-clause-err : goal.returns-in_err-feed-clause-err
 returns-in_err-feed-clause-err g c =
     let p = err_from_is_err_and c.from_residual-in_err-feed.result c.from_residual-in_err-feed.ensures.1 in
     let asks : c.steps.session.op ≡ Some c.in_ok-asked.asked = cc (c.in-Some.ensures, c.in_ok-asked.ensures) in
-    let told = rw c.steps.invariant.number at c.in_ok-reply.ensures.ok in
+    let told = rw c.steps.invariant.own at c.in_ok-reply.ensures.ok in
     rw p.1 (goes_so_far _ _ _ _ _ _ _ _ _ _ _ _ c.steps.invariant.driving asks told)

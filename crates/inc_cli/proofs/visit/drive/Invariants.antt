@@ -6,8 +6,8 @@ use Rattle.inc_cli.proofs.visit.drive.Given as goal
 abbrev pub invariant-steps : goal.invariant-steps
 invariant-steps g l = record {
   runs : g.D.Dir.runs l.dir ≡ true;
-  number : g.D.Dir.number l.dir ≡ g.D.Dir.number l.initial.dir;
-  driving : Driving (g.D.Dir.number l.initial.dir) l.initial.session l.session (g.D.Dir.told l.initial.dir) (g.D.Dir.told l.dir)
+  own : g.D.Dir.own l.dir ≡ g.D.Dir.own l.initial.dir;
+  driving : Driving (g.D.Dir.own l.initial.dir) l.initial.session l.session (g.D.Dir.told l.initial.dir) (g.D.Dir.told l.dir)
       (g.D.Dir.faults l.initial.dir) (g.D.Dir.faults l.dir) l.initial.meter l.meter;
 }
 

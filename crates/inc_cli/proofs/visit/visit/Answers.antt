@@ -5,12 +5,12 @@ use Rattle.inc_cli.proofs.visit.visit.Goals as goal
 
 pub returns-clause-ok : goal.returns-clause-ok
 returns-clause-ok g c =
-    let left = rw c.drive-driven.ensures.number at c.leave.ensures.told in
-    rw (c.leave.ensures.number, c.drive-driven.ensures.number)
-    (on_ok_weaker c.drive-driven.result (has_visited _ _ _ _ _ _ c.in_ok-begin.ensures.ok left c.drive-driven.new.session) c.drive-driven.ensures.ok)
+    let left = rw c.drive-driven.ensures.own at c.leave.ensures.told in
+    rw (c.leave.ensures.own, c.drive-driven.ensures.own)
+    (on_ok_weaker c.drive-driven.result (has_visited _ _ _ _ _ _ _ c.in_ok-begin.ensures.one c.in_ok-begin.ensures.ok left c.drive-driven.new.session) c.drive-driven.ensures.ok)
 
 pub returns-clause-err : goal.returns-clause-err
 returns-clause-err g c =
-    let left = rw c.drive-driven.ensures.number at c.leave.ensures.told in
-    rw (c.leave.ensures.number, c.drive-driven.ensures.number)
-    (on_err_weaker c.drive-driven.result (λ gone. inr (has_left _ _ _ _ _ _ c.in_ok-begin.ensures.ok left c.args.session.now.plan gone)) c.drive-driven.ensures.err)
+    let left = rw c.drive-driven.ensures.own at c.leave.ensures.told in
+    rw (c.leave.ensures.own, c.drive-driven.ensures.own)
+    (on_err_weaker c.drive-driven.result (λ gone. inr (has_left _ _ _ _ _ _ _ c.in_ok-begin.ensures.one c.in_ok-begin.ensures.ok left c.args.session.now.plan gone)) c.drive-driven.ensures.err)

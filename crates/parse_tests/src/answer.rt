@@ -1,9 +1,8 @@
 //! What a text is answered.
 
 use inc_base::Bytes;
-use rs_lex::{LexFault, end_of, lex};
-use rs_parse::{SyntaxFault, parse};
-use rs_tree::{At, Crate};
+use rs_text::{TextFault, read_text};
+use rs_tree::Crate;
 use std::alloc::Global;
 
 /// A text is a tree, or has a fault at a line and a column.
@@ -17,41 +16,21 @@ pub enum Answer {
     Memory,
 }
 
-fn of_lexer(fault: LexFault) -> Answer {
+fn of_fault(fault: &TextFault) -> Answer {
     match fault {
-        LexFault::At(at) => Answer::Lexing(at.line, at.column),
-        LexFault::Memory => Answer::Memory,
-    }
-}
-
-fn of_parser(fault: &SyntaxFault) -> Answer {
-    match fault {
-        SyntaxFault::Nesting(at) => Answer::Nesting(at.line, at.column),
-        SyntaxFault::Syntax(at) => Answer::Syntax(at.line, at.column),
-        SyntaxFault::Twice(at, _) => Answer::Twice(at.line, at.column),
-        SyntaxFault::Memory => Answer::Memory,
-    }
-}
-
-fn end(text: &[u8]) -> Option<At> {
-    match end_of(text) {
-        Ok(at) => Some(at),
-        Err(_) => None,
+        TextFault::Byte(at) => Answer::Lexing(at.line, at.column),
+        TextFault::Nesting(at) => Answer::Nesting(at.line, at.column),
+        TextFault::Syntax(at) => Answer::Syntax(at.line, at.column),
+        TextFault::Twice(at, _) => Answer::Twice(at.line, at.column),
+        TextFault::Memory => Answer::Memory,
     }
 }
 
 /// The tree of a text, or its fault.
 pub fn tree_of(alloc: Global, text: &str) -> Result<Crate, Answer> {
-    let text = text.as_bytes();
-    let Some(end) = end(text) else {
-        return Err(Answer::Memory);
-    };
-    match lex(alloc, text) {
-        Err(fault) => Err(of_lexer(fault)),
-        Ok(tokens) => match parse(alloc, tokens.as_slice(), end) {
-            Ok(tree) => Ok(tree),
-            Err(fault) => Err(of_parser(&fault)),
-        },
+    match read_text(alloc, text.as_bytes()) {
+        Ok(tree) => Ok(tree),
+        Err(fault) => Err(of_fault(&fault)),
     }
 }
 
@@ -65,12 +44,8 @@ pub fn answer_of(alloc: Global, text: &str) -> Answer {
 
 /// The name that a text defines twice.
 pub fn name_twice(alloc: Global, text: &str) -> Option<Bytes> {
-    let end = end(text.as_bytes())?;
-    match lex(alloc, text.as_bytes()) {
-        Err(_) => None,
-        Ok(tokens) => match parse(alloc, tokens.as_slice(), end) {
-            Err(SyntaxFault::Twice(_, name)) => Some(name),
-            _ => None,
-        },
+    match read_text(alloc, text.as_bytes()) {
+        Err(TextFault::Twice(_, name)) => Some(name),
+        _ => None,
     }
 }

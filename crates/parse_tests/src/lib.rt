@@ -1,4 +1,4 @@
-//! Tests of the lexer and the parser together, on texts: which have a tree, which fault the others have, and
+//! Tests of the lexer and the parser, on texts: their tokens, which have a tree, which fault the others have, and
 //! the trees, printed.
 //!
 //! Each expected place and tree is written from the rules of docs/LANGUAGE.md. Open `src/answer.rt` first for
@@ -19,5 +19,7 @@ mod print_statement;
 mod speed;
 #[cfg(test)]
 mod text;
+#[cfg(test)]
+mod tokens;
 #[cfg(test)]
 mod trees;

@@ -10,8 +10,6 @@ mod length;
 mod lexer;
 mod place;
 mod step;
-#[cfg(test)]
-mod tests;
 
 pub use fault::LexFault;
 pub use laws::texts_are_answered;

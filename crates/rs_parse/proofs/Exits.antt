@@ -1,23 +1,23 @@
 -- How a function that reads returns early.
 use Rattle.std.proofs.Common.{◌≡◌, ◌<◌, Bool, true, false, List, [], ◌∷◌, ◌++◌, length, Some, None, Result, Ok, Err, refl, sym, ap, ◌∙◌, subst, arith, length-append, append_assoc}
 use Rattle.std.specs.Result.{IsErrAnd}
-use Rattle.rs_parse.specs.Lexeme.{Lexeme}
+use Rattle.rs_grammar.specs.Lexeme.{Lexeme}
 use Rattle.rs_parse.specs.declared.fault.Fault.{Fault}
 use Rattle.rs_parse.specs.declared.fault.Fault.TheVariants.{Syntax, Memory}
 use Rattle.rs_tree.specs.declared.kind.Kind.{Kind}
-use Rattle.rs_parse.specs.Grammar.{Shape, Val, Grammar, Tok, Rep, Tail, Matches}
-use Rattle.rs_parse.specs.Sets.{nullable, first, next_in}
-use Rattle.rs_parse.specs.Reads.{Reads, r-tok, r-turn, r-later, r-tail_turn, r-tail_later, r-tail_last, r-tail_no_turn}
+use Rattle.rs_grammar.specs.Grammar.{Shape, Val, Grammar, Tok, Rep, Tail, Matches}
+use Rattle.rs_grammar.specs.Sets.{nullable, first, next_in}
+use Rattle.rs_grammar.specs.Parses.{Parses, r-tok, r-turn, r-later, r-tail_turn, r-tail_later, r-tail_last, r-tail_no_turn}
 use Rattle.rs_parse.specs.Reading.{Reading, Advances, Turns, TailTurns}
-use Rattle.rs_parse.proofs.Begins.{empty_match}
-use Rattle.rs_parse.proofs.Soundness.{read_matches, reads_on}
-use Rattle.rs_parse.proofs.Fine.{fine}
+use Rattle.rs_grammar.proofs.Begins.{empty_match}
+use Rattle.rs_grammar.proofs.Soundness.{read_matches, reads_on}
+use Rattle.rs_grammar.proofs.Fine.{fine}
 
 abbrev pub handed : {X Y : Type 0} → (X → Y) → Result X Fault → Result Y Fault
 handed f (Ok x) = Ok (f x)
 handed f (Err e) = Err e
 
-advance : {s : Shape} {g : Grammar s} {u v : List Lexeme} {x : Val s} → Reads _ g u (Some x) v → Advances {X = Val s} (nullable g) (Ok x) u v
+advance : {s : Shape} {g : Grammar s} {u v : List Lexeme} {x : Val s} → Parses _ g u (Some x) v → Advances {X = Val s} (nullable g) (Ok x) u v
 advance {g} {u} {v} {x} r = go (nullable g) refl
   where
     go : (b : Bool) → nullable g ≡ b → Advances b (Ok x) u v
@@ -28,17 +28,17 @@ advance {g} {u} {v} {x} r = go (nullable g) refl
         taking [] z m e = absurd (let h : true ≡ false = sym (empty_match fine m refl) ∙ e in cc)
         taking (t ∷ a) z m e = omega (arith, ap length z, length-append a v)
 
-pub read : {s : Shape} {g : Grammar s} {u v : List Lexeme} {x : Val s} → Reads _ g u (Some x) v → Reading g u (Ok x) v
+pub read : {s : Shape} {g : Grammar s} {u v : List Lexeme} {x : Val s} → Parses _ g u (Some x) v → Reading g u (Ok x) v
 read r = record { is = r; on = advance r }
 
-pub read_as : {s : Shape} {g : Grammar s} {u v : List Lexeme} {x y : Val s} → x ≡ y → Reads _ g u (Some y) v → Reading g u (Ok x) v
+pub read_as : {s : Shape} {g : Grammar s} {u v : List Lexeme} {x y : Val s} → x ≡ y → Parses _ g u (Some y) v → Reading g u (Ok x) v
 read_as {g} {u} {v} e r = subst (λ z. Reading g u (Ok z) v) (sym e) (read r)
 
 not_on : (X : Type 0) (b : Bool) (e : Fault) (u v : List Lexeme) → Advances {X = X} b (Err e) u v
 not_on X true e u v = tt
 not_on X false e u v = tt
 
-pub failed : {s : Shape} {g : Grammar s} {u v : List Lexeme} → Reads _ g u None v → Reading g u (Err Syntax) v
+pub failed : {s : Shape} {g : Grammar s} {u v : List Lexeme} → Parses _ g u None v → Reading g u (Err Syntax) v
 failed {s} {g} {u} {v} r = record { is = r; on = not_on (Val s) (nullable g) Syntax u v }
 
 pub out_of_memory : {s : Shape} {g : Grammar s} {u v : List Lexeme} → Reading g u (Err Memory) v
@@ -46,7 +46,7 @@ out_of_memory {s} {g} {u} {v} = record { is = tt; on = not_on (Val s) (nullable 
 
 -- a fault within is a fault
 pub passes : {s t : Shape} {g : Grammar s} {h : Grammar t} {u v w : List Lexeme} {e : Fault} (r : Result (Val t) Fault)
-    → IsErrAnd r (λ d. d ≡ e) → Reading g v (Err e) w → (Reads _ g v None w → Reads _ h u None w) → Reading h u r w
+    → IsErrAnd r (λ d. d ≡ e) → Reading g v (Err e) w → (Parses _ g v None w → Parses _ h u None w) → Reading h u r w
 passes (Ok x) i f k = absurd i
 passes {e = Syntax} (Err Syntax) i f k = failed (k f.is)
 passes {e = Memory} (Err Syntax) i f k = absurd cc
@@ -60,7 +60,7 @@ wants (Err Memory) i = out_of_memory
 
 -- a result that is handed on
 pub hands : {s t : Shape} {g : Grammar s} {h : Grammar t} {u v w : List Lexeme} (r : Result (Val s) Fault) → Reading g v r w
-    → (f : Val s → Val t) → (Reads _ g v None w → Reads _ h u None w) → ((x : Val s) → Reads _ g v (Some x) w → Reads _ h u (Some (f x)) w) → Reading h u (handed f r) w
+    → (f : Val s → Val t) → (Parses _ g v None w → Parses _ h u None w) → ((x : Val s) → Parses _ g v (Some x) w → Parses _ h u (Some (f x)) w) → Reading h u (handed f r) w
 hands (Ok x) o f k l = read (l x o.is)
 hands (Err Syntax) o f k l = failed (k o.is)
 hands (Err Memory) o f k l = out_of_memory
@@ -68,9 +68,9 @@ hands (Err Memory) o f k l = out_of_memory
 pub turns_none : {s : Shape} {g : Grammar s} {u : List Lexeme} → Turns g u [] u
 turns_none = record { ends = λ xs w r. r; fails = λ w r. r; on = omega arith }
 
-pub turns_more : {s : Shape} {g : Grammar s} {u v w : List Lexeme} {done : List (Val s)} {x : Val s} → Turns g u done v → next_in (first g) v ≡ true → Reads _ g v (Some x) w → Turns g u (done ++ x ∷ []) w
+pub turns_more : {s : Shape} {g : Grammar s} {u v w : List Lexeme} {done : List (Val s)} {x : Val s} → Turns g u done v → next_in (first g) v ≡ true → Parses _ g v (Some x) w → Turns g u (done ++ x ∷ []) w
 turns_more {g} {u} {done} {x} t e r = record {
-  ends = λ xs z q. subst (λ (l : List (Val _)). Reads _ (Rep g) u (Some l) z) (sym (append_assoc done (x ∷ []) xs)) (t.ends (x ∷ xs) z (r-turn e r q));
+  ends = λ xs z q. subst (λ (l : List (Val _)). Parses _ (Rep g) u (Some l) z) (sym (append_assoc done (x ∷ []) xs)) (t.ends (x ∷ xs) z (r-turn e r q));
   fails = λ z q. t.fails z (r-later e r q);
   on = omega (arith, t.on, reads_on r);
 }
@@ -79,9 +79,9 @@ pub tail_none : {s t : Shape} {c : Kind} {g : Grammar s} {h : Grammar t} {u : Li
 tail_none = record { ends = λ xs y w r. r; fails = λ w r. r; on = omega arith }
 
 pub tail_more : {s t : Shape} {c : Kind} {g : Grammar s} {h : Grammar t} {u v w z : List Lexeme} {done : List (Val s)} {d : Lexeme} {x : Val s}
-    → TailTurns c g h u done v → Reads _ (Tok c) v (Some d) w → next_in (first g) w ≡ true → Reads _ g w (Some x) z → TailTurns c g h u (done ++ x ∷ []) z
+    → TailTurns c g h u done v → Parses _ (Tok c) v (Some d) w → next_in (first g) w ≡ true → Parses _ g w (Some x) z → TailTurns c g h u (done ++ x ∷ []) z
 tail_more {c} {g} {h} {u} {done} {x} t (r-tok k) e r = record {
-  ends = λ xs y b q. subst (λ (l : List (Val _)). Reads _ (Tail c g h) u (Some (l, y)) b) (sym (append_assoc done (x ∷ []) xs)) (t.ends (x ∷ xs) y b (r-tail_turn k e r q));
+  ends = λ xs y b q. subst (λ (l : List (Val _)). Parses _ (Tail c g h) u (Some (l, y)) b) (sym (append_assoc done (x ∷ []) xs)) (t.ends (x ∷ xs) y b (r-tail_turn k e r q));
   fails = λ b q. t.fails b (r-tail_later k e r q);
   on = omega (arith, t.on, reads_on r);
 }
@@ -95,9 +95,9 @@ pub as_is : {X : Type 0} (P : Result X Fault → Type 0) (r : Result X Fault) �
 as_is P r h = subst P (handed_same r) h
 
 pub tail_last : {s t : Shape} {c : Kind} {g : Grammar s} {h : Grammar t} {u v w : List Lexeme} {d : Lexeme} {y : Val t}
-    → Reads _ (Tok c) u (Some d) v → next_in (first g) v ≡ false → Reads _ h v (Some y) w → Reads _ (Tail c g h) u (Some ([], Some y)) w
+    → Parses _ (Tok c) u (Some d) v → next_in (first g) v ≡ false → Parses _ h v (Some y) w → Parses _ (Tail c g h) u (Some ([], Some y)) w
 tail_last (r-tok k) e r = r-tail_last k e r
 
 pub tail_no_turn : {s t : Shape} {c : Kind} {g : Grammar s} {h : Grammar t} {u v w : List Lexeme} {d : Lexeme}
-    → Reads _ (Tok c) u (Some d) v → next_in (first g) v ≡ true → Reads _ g v None w → Reads _ (Tail c g h) u None w
+    → Parses _ (Tok c) u (Some d) v → next_in (first g) v ≡ true → Parses _ g v None w → Parses _ (Tail c g h) u None w
 tail_no_turn (r-tok k) e r = r-tail_no_turn k e r

@@ -7,7 +7,7 @@ use Rattle.rs_tree.specs.declared.kind.Kind.{Kind}
 use Rattle.rs_tree.specs.declared.kind.Kind.TheVariants as k
 use Rattle.rs_tree.specs.declared.place.At.{At}
 use Rattle.rs_tree.specs.declared.token.Token.{Token}
-use Rattle.rs_parse.specs.Lexeme.{Lexeme, lexeme, lexemes, kind_of_text, token_kinds, name_place, nowhere, seen, token, moved}
+use Rattle.rs_grammar.specs.Lexeme.{Lexeme, lexeme, lexemes, kind_of_text, token_kinds, name_place, nowhere, seen, token, moved}
 
 pub front_kinds : (ts : List Token) (ks : List Kind) (n : ℕ) → ks ≡ token_kinds ts → take n ks ≡ token_kinds (take n ts)
 front_kinds ts ks n e = ap (take n) e ∙ take-map (λ (t : Token). kind_of_text t.text) n ts

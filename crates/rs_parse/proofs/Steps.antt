@@ -8,16 +8,16 @@ use Rattle.rs_tree.specs.declared.kind.Kind.{Kind}
 use Rattle.rs_tree.specs.declared.place.At.{At}
 use Rattle.rs_tree.specs.declared.token.Token.{Token}
 use Rattle.rs_parse.specs.declared.fault.Fault.TheVariants as fault
-use Rattle.rs_parse.specs.Lexeme.{Lexeme, kind_of_text, lexeme, lexemes, token_kinds, moved, seen, next_kind, second_kind}
-use Rattle.rs_parse.specs.Grammar.{Tok}
-use Rattle.rs_parse.specs.Sets.{first, next_in}
-use Rattle.rs_parse.specs.Reads.{Reads, r-tok, r-other, r-end}
+use Rattle.rs_grammar.specs.Lexeme.{Lexeme, kind_of_text, lexeme, lexemes, token_kinds, moved, seen, next_kind, second_kind}
+use Rattle.rs_grammar.specs.Grammar.{Tok}
+use Rattle.rs_grammar.specs.Sets.{first, next_in}
+use Rattle.rs_grammar.specs.Parses.{Parses, r-tok, r-other, r-end}
 use Rattle.rs_parse.specs.Reading.{Reading}
 
 -- A token of the kind stands next.
 pub taken : {c : Kind} {t : Lexeme} {u w : List Lexeme} → u ≡ t ∷ w → next_in (first (Tok c)) u ≡ true → Reading (Tok c) u (Ok t) w
 taken {c} {t} {u} {w} e h = record {
-  is = subst (λ (z : List Lexeme). Reads _ (Tok c) z (Some t) w) (sym e) (r-tok (code_injective t.kind c (eqb-true _ _ (sym (ap (next_in (first (Tok c))) e) ∙ h))));
+  is = subst (λ (z : List Lexeme). Parses _ (Tok c) z (Some t) w) (sym e) (r-tok (code_injective t.kind c (eqb-true _ _ (sym (ap (next_in (first (Tok c))) e) ∙ h))));
   on = omega (arith, ap length e);
 }
 
@@ -25,7 +25,7 @@ taken {c} {t} {u} {w} e h = record {
 pub refused : (c : Kind) (u : List Lexeme) → false ≡ next_in (first (Tok c)) u → Reading (Tok c) u (Err fault.Syntax) u
 refused c u e = record { is = go u e; on = tt }
   where
-    go : (u : List Lexeme) → false ≡ next_in (first (Tok c)) u → Reads _ (Tok c) u None u
+    go : (u : List Lexeme) → false ≡ next_in (first (Tok c)) u → Parses _ (Tok c) u None u
     go [] e = r-end
     go (t ∷ u) e = r-other (λ h. let f : true ≡ false = sym (eq-eqb _ _ (ap code h)) ∙ sym e in cc)
 
@@ -43,7 +43,7 @@ second_kind_seen base [] = refl
 second_kind_seen base (t ∷ []) = refl
 second_kind_seen base (t ∷ v ∷ u) = refl
 
-reads_seen : {c : Kind} {t : Lexeme} {u w : List Lexeme} (base : At) → Reads _ (Tok c) u (Some t) w → Reads _ (Tok c) (seen base u) (Some (moved base t)) (seen base w)
+reads_seen : {c : Kind} {t : Lexeme} {u w : List Lexeme} (base : At) → Parses _ (Tok c) u (Some t) w → Parses _ (Tok c) (seen base u) (Some (moved base t)) (seen base w)
 reads_seen base (r-tok e) = r-tok e
 
 length_seen : (base : At) (u : List Lexeme) → length (seen base u) ≡ length u
@@ -98,5 +98,5 @@ pub skipped_lexemes : (ts : List Token) (u : List Lexeme) (n : ℕ) → lexemes 
 skipped_lexemes ts u n f h = ap lexemes (skipped ts n (within lexeme ts u n f h)) ∙ sym (drop-map lexeme n ts) ∙ ap (drop n) f
 
 -- what was read as a kind is of it
-pub read_kind : {c : Kind} {t : Lexeme} {u w : List Lexeme} → Reads _ (Tok c) u (Some t) w → t.kind ≡ c
+pub read_kind : {c : Kind} {t : Lexeme} {u w : List Lexeme} → Parses _ (Tok c) u (Some t) w → t.kind ≡ c
 read_kind (r-tok e) = e

@@ -1,13 +1,4 @@
-pub mod Lexeme
-pub mod Grammar
-pub mod Sets
-pub mod Reads
-pub mod Fine
 pub mod Reading
 pub mod Blocks
-pub mod Correct
-pub mod Twice
-pub mod Nesting
-pub mod Written
 pub mod Building
 pub mod Whole

@@ -2,23 +2,23 @@
 use Rattle.std.specs.Prelude.{◌≡◌, ℕ, List, Result, Ok, Err}
 use Rattle.rs_tree.specs.declared.place.At.{At}
 use Rattle.rs_tree.specs.declared.token.Token.{Token}
-use Rattle.rs_parse.specs.declared.fault.SyntaxFault.{SyntaxFault}
-use Rattle.rs_parse.specs.declared.fault.SyntaxFault.TheVariants as fault
+use Rattle.rs_grammar.specs.declared.fault.SyntaxFault.{SyntaxFault}
+use Rattle.rs_grammar.specs.declared.fault.SyntaxFault.TheVariants as fault
 use Rattle.rs_parse.specs.declared.part.Building.{Building}
-use Rattle.rs_parse.specs.declared.twice.Named.{Named}
-use Rattle.rs_parse.specs.Lexeme.{lexemes}
-use Rattle.rs_parse.specs.Grammar.{Piece}
-use Rattle.rs_parse.specs.Correct.{Fits, modules_of, items_of, names_of}
-use Rattle.rs_parse.specs.Twice.{AllOnce, IsFirstTwice}
+use Rattle.rs_grammar.specs.declared.named.Named.{Named}
+use Rattle.rs_grammar.specs.Lexeme.{lexemes}
+use Rattle.rs_grammar.specs.Grammar.{Section}
+use Rattle.rs_grammar.specs.Correct.{FitsCrate, modules_of, items_of, names_of}
+use Rattle.rs_grammar.specs.Twice.{AllOnce, IsFirstTwice}
 
--- the pieces of the whole text were added
-pub record HasPieces (tokens : List Token) (found : Building) : Type 0 where
-  pub pieces : List Piece
-  pub fit : Fits (lexemes tokens) pieces
-  pub only : (others : List Piece) → Fits (lexemes tokens) others → others ≡ pieces
-  pub modules : found.modules ≡ modules_of pieces
-  pub items : found.items ≡ items_of pieces
-  pub names : found.names ≡ names_of pieces
+-- the sections of the whole text were added
+pub record HasSections (tokens : List Token) (found : Building) : Type 0 where
+  pub sections : List Section
+  pub fit : FitsCrate (lexemes tokens) sections
+  pub only : (others : List Section) → FitsCrate (lexemes tokens) others → others ≡ sections
+  pub modules : found.modules ≡ modules_of sections
+  pub items : found.items ≡ items_of sections
+  pub names : found.names ≡ names_of sections
 
 pub record IsTwiceAt (names : List Named) (at : At) (name : List ℕ) : Type 0 where
   pub named : Named

@@ -1,7 +1,7 @@
 //! The body of a function.
 
 ghost use Rattle.rs_parse.specs.Blocks.{ReadsOne};
-ghost use Rattle.rs_parse.specs.Grammar.{Body, Braced, Nt};
+ghost use Rattle.rs_grammar.specs.Grammar.{Body, Braced, Nt};
 ghost use Rattle.rs_parse.specs.Reading.{Reading};
 
 use crate::expression::expression;

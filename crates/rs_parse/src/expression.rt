@@ -1,7 +1,7 @@
 //! Expressions: a function for each form.
 
 ghost use Rattle.std.specs.Prelude.{◌≡◌};
-ghost use Rattle.rs_parse.specs.Grammar.{AndNext, Args, Arguments, Comparison, Conjunction, Expression, Group, Nt, Opt, OrNext, OtherArgs, Primary, Product, ProductNext, Rep, Sum, SumNext, Unary, Use};
+ghost use Rattle.rs_grammar.specs.Grammar.{AndNext, Args, Arguments, Comparison, Conjunction, Expression, Group, Nt, Opt, OrNext, OtherArgs, Primary, Product, ProductNext, Rep, Sum, SumNext, Unary, Use};
 ghost use Rattle.rs_parse.specs.Reading.{Reading};
 
 use crate::fault::Fault;

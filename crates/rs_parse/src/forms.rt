@@ -4,8 +4,8 @@ ghost use Rattle.std.specs.Prelude.{◌≡◌, IfOk, None, Some, ◌∷◌};
 ghost use Rattle.std.proofs.Common.{inl, inr};
 ghost use Rattle.rs_tree.specs.declared.tree.Form.TheVariants as form;
 ghost use Rattle.rs_tree.specs.declared.kind.Kind.TheVariants as k;
-ghost use Rattle.rs_parse.specs.Lexeme.{Lexeme};
-ghost use Rattle.rs_parse.specs.Grammar.{Comparison, Group, Literal, Route, Unary, Use, and_of, arith_of, else_none, made, or_of};
+ghost use Rattle.rs_grammar.specs.Lexeme.{Lexeme};
+ghost use Rattle.rs_grammar.specs.Grammar.{Comparison, Group, Literal, Route, Unary, Use, and_of, arith_of, else_none, made, or_of};
 
 use crate::lexeme::Lexeme;
 use inc_base::{Bytes, Memory};

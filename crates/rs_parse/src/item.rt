@@ -3,8 +3,8 @@
 ghost use Rattle.std.specs.Prelude.{◌≡◌, IfOk, Option, List};
 ghost use Rattle.std.proofs.Common.{inl};
 ghost use Rattle.rs_parse.specs.Blocks.{public_constant};
-ghost use Rattle.rs_parse.specs.Grammar.{Constant, Definition, Function, Marker, Nt, Opt, made, public};
-ghost use Rattle.rs_parse.specs.Lexeme.{Lexeme};
+ghost use Rattle.rs_grammar.specs.Grammar.{Constant, Definition, Function, Marker, Nt, Opt, made, public};
+ghost use Rattle.rs_grammar.specs.Lexeme.{Lexeme};
 ghost use Rattle.rs_parse.specs.Reading.{Reading, ReadingAs};
 
 use crate::body::braced;

@@ -3,7 +3,7 @@
 ghost use Rattle.std.specs.Prelude.{◌≡◌, IfOk, pos};
 ghost use Rattle.rs_tree.specs.Words.{value_of};
 ghost use Rattle.rs_tree.specs.declared.kind.Kind.TheVariants as k;
-ghost use Rattle.rs_parse.specs.Lexeme.{moved, relative, token_kinds, kind_of_text};
+ghost use Rattle.rs_grammar.specs.Lexeme.{moved, relative, token_kinds, kind_of_text};
 
 use inc_base::{Bytes, Copied, Memory};
 use rs_tree::{At, Kind, Token, kind_of, number_of};
@@ -20,7 +20,7 @@ pub(crate) struct Lexeme<'a> {
 
 impl<'a> Model for Lexeme<'a> {
     ghost use Rattle.std.specs.Prelude.{◌≡◌};
-    ghost use Rattle.rs_parse.specs.Lexeme.{Lexeme, kind_of_text};
+    ghost use Rattle.rs_grammar.specs.Lexeme.{Lexeme, kind_of_text};
 
     ghost Value = { Lexeme };
 

@@ -1,7 +1,7 @@
 //! The parser: the tree that fits the tokens, or the first fault.
 //!
-//! Below it stand `inc_base` and `rs_tree`. Open `specs/Grammar.antt` first: the grammar as a value, what
-//! matches it and what is a front of it; then `specs/Correct.antt`, what `parse` answers.
+//! Below it stand `rs_tree` and `rs_grammar`, which has the grammar and what `parse` answers (its
+//! `specs/Correct.antt`). Open `specs/Reading.antt` first: what each function of the parser is proved to do.
 #![tactic(auto)]
 
 mod body;
@@ -9,7 +9,6 @@ mod expression;
 mod fault;
 mod forms;
 mod item;
-mod laws;
 mod lexeme;
 mod nesting;
 mod optional;
@@ -23,7 +22,6 @@ mod tokens;
 mod twice;
 mod typing;
 
-pub use fault::SyntaxFault;
-pub use laws::{answers_are_one, rules_are_as_written};
 pub use nesting::DEEPEST;
 pub use parser::parse;
+pub use rs_grammar::SyntaxFault;

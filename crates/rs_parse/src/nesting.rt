@@ -1,8 +1,8 @@
 //! How deep brackets nest.
 
 ghost use Rattle.std.specs.Prelude.{◌≡◌, ◌≤◌, MatchOption};
-ghost use Rattle.rs_parse.specs.Lexeme.{lexemes, token_kinds};
-ghost use Rattle.rs_parse.specs.Nesting.{IsShallow, IsTooDeep, open_after};
+ghost use Rattle.rs_grammar.specs.Lexeme.{lexemes, token_kinds};
+ghost use Rattle.rs_grammar.specs.Nesting.{IsShallow, IsTooDeep, open_after};
 
 use rs_tree::{At, Kind, Token};
 

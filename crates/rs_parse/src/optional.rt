@@ -1,7 +1,7 @@
 //! What may be left out.
 
 ghost use Rattle.std.specs.Prelude.{Ok};
-ghost use Rattle.rs_parse.specs.Grammar.{Nt, Opt, Tok, Expression};
+ghost use Rattle.rs_grammar.specs.Grammar.{Nt, Opt, Tok, Expression};
 ghost use Rattle.rs_parse.specs.Reading.{Reading};
 
 use crate::expression::expression;

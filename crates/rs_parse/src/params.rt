@@ -1,9 +1,9 @@
 //! The parameters of a function.
 
 ghost use Rattle.std.specs.Prelude.{◌≡◌, ◌∷◌, IfOk};
-ghost use Rattle.rs_parse.specs.Lexeme.{Lexeme};
-ghost use Rattle.rs_parse.specs.Grammar as grammar;
-ghost use Rattle.rs_parse.specs.Grammar.{Nt, OtherParams, Params, Parameters, Opt, made};
+ghost use Rattle.rs_grammar.specs.Lexeme.{Lexeme};
+ghost use Rattle.rs_grammar.specs.Grammar as grammar;
+ghost use Rattle.rs_grammar.specs.Grammar.{Nt, OtherParams, Params, Parameters, Opt, made};
 ghost use Rattle.rs_parse.specs.Reading.{Reading, ReadingAs};
 
 use crate::fault::Fault;

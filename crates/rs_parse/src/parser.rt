@@ -1,18 +1,19 @@
 //! The parse of a whole text.
 
 ghost use Rattle.std.specs.Prelude.{◌≡◌, IfOk, IfErr};
-ghost use Rattle.rs_parse.specs.Lexeme.{lexemes, token_kinds};
-ghost use Rattle.rs_parse.specs.Nesting.{IsShallow};
-ghost use Rattle.rs_parse.specs.Correct.{HasTree, IsRefusal};
-ghost use Rattle.rs_parse.specs.Whole.{HasPieces, HasNames};
+ghost use Rattle.rs_grammar.specs.Lexeme.{lexemes, token_kinds};
+ghost use Rattle.rs_grammar.specs.Nesting.{IsShallow};
+ghost use Rattle.rs_grammar.specs.Correct.{HasTree, IsRefusal};
+ghost use Rattle.rs_parse.specs.Whole.{HasSections, HasNames};
 
-use crate::fault::{Fault, SyntaxFault};
+use crate::fault::Fault;
 use crate::lexeme::kinds_of;
 use crate::nesting::first_too_deep;
 use crate::part::{Building, parts};
 use crate::tokens::Whole;
 use crate::twice::first_twice;
 use inc_base::Copied;
+use rs_grammar::SyntaxFault;
 use rs_tree::{At, Crate, Kind, Token};
 use std::alloc::Global;
 
@@ -45,7 +46,7 @@ fn read_all(
 ) -> Result<Building, SyntaxFault>
     requires kinds { kinds.now ≡ token_kinds tokens.now }
     requires shallow { IsShallow (lexemes tokens.now) }
-    ensures found { IfOk result (HasPieces tokens.now) }
+    ensures found { IfOk result (HasSections tokens.now) }
     ensures fault { IfErr result (IsRefusal tokens.now end) }
 {
     let mut found = Building::new(alloc);

@@ -1,16 +1,17 @@
 //! A text: its modules and items.
 
 ghost use Rattle.std.specs.Prelude.{◌≡◌, [], IfOk, OnOk, Option};
-ghost use Rattle.rs_parse.specs.Lexeme.{start_of};
-ghost use Rattle.rs_parse.specs.Grammar as rule;
-ghost use Rattle.rs_parse.specs.Grammar.{Contents, Nt, Part, Rep, made};
-ghost use Rattle.rs_parse.specs.Building.{Adding, ReadsItem, with_item, with_items, with_name, with_piece, with_pieces};
+ghost use Rattle.rs_grammar.specs.Lexeme.{start_of};
+ghost use Rattle.rs_grammar.specs.Grammar as rule;
+ghost use Rattle.rs_grammar.specs.Grammar.{Contents, Nt, Part, Rep, made};
+ghost use Rattle.rs_parse.specs.Reading.{Reading};
+ghost use Rattle.rs_parse.specs.Building.{Adding, with_item, with_items, with_name, with_section, with_sections};
 
 use crate::fault::Fault;
 use crate::item::definition;
 use crate::tokens::{Tokens, Whole};
-use crate::twice::Named;
 use inc_base::{Bytes, Copied, List, Memory};
+use rs_grammar::{Named, Sited};
 use rs_tree::{At, Item, Kind, Placed};
 use std::alloc::Global;
 
@@ -20,13 +21,6 @@ pub(crate) struct Building {
     pub modules: List<Bytes>,
     pub items: List<Placed>,
     pub names: List<Named>,
-}
-
-/// An item, of no module yet, and the place of its name in the text.
-#[derive(Drop)]
-pub(crate) struct Sited {
-    pub at: At,
-    pub placed: Placed,
 }
 
 impl Building {
@@ -43,7 +37,7 @@ impl Building {
 
     /// Adds an item of the module of this name.
     fn add_item(&mut self, name: &Bytes, sited: Sited) -> Result<(), Memory>
-        ensures { OnOk result (self.new ≡ with_item name.now self.old (record { at = sited.at; placed = sited.placed })) }
+        ensures { OnOk result (self.new ≡ with_item name.now self.old sited) }
     {
         self.names.push(Named {
             at: sited.at,
@@ -71,7 +65,7 @@ impl Building {
 
 /// An item. Its places are relative to its first token.
 fn item(alloc: Global, tokens: &mut Whole<'_>) -> Result<Sited, Fault>
-    ensures { ReadsItem tokens.old result tokens.new }
+    ensures { Reading (Nt rule.Item) tokens.old result tokens.new }
 {
     let Some(start) = tokens.at() else {
         return Err(Fault::Syntax);
@@ -87,7 +81,7 @@ fn item(alloc: Global, tokens: &mut Whole<'_>) -> Result<Sited, Fault>
 /// The item that these tokens are.
 fn whole_item(alloc: Global, front: &Whole<'_>, start: At, item: Item) -> Result<Sited, Memory>
     requires { start ≡ start_of front.now }
-    ensures { IfOk result (λ s. record { at = s.at; placed = s.placed } ≡ made rule.Item (front.now, item)) }
+    ensures { IfOk result (λ s. s ≡ made rule.Item (front.now, item)) }
 {
     let tokens = front.copies(alloc, start)?;
     Ok(Sited {
@@ -118,7 +112,7 @@ fn items(
 
 /// A module, from its name on.
 fn contents(alloc: Global, tokens: &mut Whole<'_>, into: &mut Building) -> Result<(), Fault>
-    ensures { Adding (Nt Contents) with_piece tokens.old result tokens.new into.old into.new }
+    ensures { Adding (Nt Contents) with_section tokens.old result tokens.new into.old into.new }
 {
     let name = tokens.expect(Kind::Name)?;
     tokens.expect(Kind::LeftBrace)?;
@@ -131,7 +125,7 @@ fn contents(alloc: Global, tokens: &mut Whole<'_>, into: &mut Building) -> Resul
 
 /// A module, or an item of the root.
 fn part(alloc: Global, tokens: &mut Whole<'_>, into: &mut Building) -> Result<(), Fault>
-    ensures { Adding (Nt Part) with_piece tokens.old result tokens.new into.old into.new }
+    ensures { Adding (Nt Part) with_section tokens.old result tokens.new into.old into.new }
 {
     if tokens.sees_pub_mod() {
         tokens.expect(Kind::Pub)?;
@@ -149,7 +143,7 @@ fn part(alloc: Global, tokens: &mut Whole<'_>, into: &mut Building) -> Result<()
 
 /// Adds the modules and items of a text, up to a token that begins neither.
 pub(crate) fn parts(alloc: Global, tokens: &mut Whole<'_>, into: &mut Building) -> Result<(), Fault>
-    ensures { Adding (Rep (Nt Part)) with_pieces tokens.old result tokens.new into.old into.new }
+    ensures { Adding (Rep (Nt Part)) with_sections tokens.old result tokens.new into.old into.new }
 {
     'turns: while tokens.sees_part() {
         part(alloc, tokens, into)?;

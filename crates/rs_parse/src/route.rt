@@ -1,7 +1,7 @@
 //! Paths.
 
 ghost use Rattle.std.specs.Prelude.{◌≡◌};
-ghost use Rattle.rs_parse.specs.Grammar.{Member, Nt, Opt, Route};
+ghost use Rattle.rs_grammar.specs.Grammar.{Member, Nt, Opt, Route};
 ghost use Rattle.rs_parse.specs.Reading.{Reading};
 
 use crate::fault::Fault;

@@ -1,7 +1,7 @@
 //! The signs of operands, and literals.
 
 ghost use Rattle.std.specs.Prelude.{◌≡◌};
-ghost use Rattle.rs_parse.specs.Grammar.{CmpSign, Literal, Nt, ProductSign, SumSign, UnarySign};
+ghost use Rattle.rs_grammar.specs.Grammar.{CmpSign, Literal, Nt, ProductSign, SumSign, UnarySign};
 ghost use Rattle.rs_parse.specs.Reading.{Reading};
 
 use crate::fault::Fault;

@@ -4,8 +4,8 @@
 
 ghost use Rattle.std.specs.Prelude.{◌≡◌, IfOk};
 ghost use Rattle.rs_parse.specs.Blocks.{assignment, assigned};
-ghost use Rattle.rs_parse.specs.Lexeme.{Lexeme};
-ghost use Rattle.rs_parse.specs.Grammar.{Arm, Binding, Block, Choice, Loop, Nt, OtherArms, Printing, Rep, Returning, Statement, Worded, made};
+ghost use Rattle.rs_grammar.specs.Lexeme.{Lexeme};
+ghost use Rattle.rs_grammar.specs.Grammar.{Arm, Binding, Block, Choice, Loop, Nt, OtherArms, Printing, Rep, Returning, Statement, Worded, made};
 ghost use Rattle.rs_parse.specs.Reading.{Reading, ReadingAs};
 
 use crate::expression::expression;

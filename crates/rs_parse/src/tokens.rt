@@ -1,10 +1,10 @@
 //! The tokens that are left.
 
 ghost use Rattle.std.specs.Prelude.{◌≡◌, ◌≤◌, true, length, drop, take, map, IfOk, Ok};
-ghost use Rattle.rs_parse.specs.Lexeme.{lexeme, lexemes, moved, name_place, next_kind, next_place, second_kind, seen, token, token_kinds};
-ghost use Rattle.rs_parse.specs.Grammar.{Compared, Expression, Item, Literal, NameAssign, Nt, Part, ProductNext, PubConst, PubMod, Statement, SumNext, Tok, UnarySign, Use, Worded};
+ghost use Rattle.rs_grammar.specs.Lexeme.{lexeme, lexemes, moved, name_place, next_kind, next_place, second_kind, seen, token, token_kinds};
+ghost use Rattle.rs_grammar.specs.Grammar.{Compared, Expression, Item, Literal, NameAssign, Nt, Part, ProductNext, PubConst, PubMod, Statement, SumNext, Tok, UnarySign, Use, Worded};
 ghost use Rattle.rs_parse.specs.Reading.{Reading};
-ghost use Rattle.rs_parse.specs.Sets.{are_next, first, next_in, next_pair};
+ghost use Rattle.rs_grammar.specs.Sets.{are_next, first, next_in, next_pair};
 
 use crate::fault::Fault;
 use crate::lexeme::{Lexeme, relative};
@@ -25,7 +25,7 @@ pub(crate) struct Whole<'a> {
 
 impl<'a> Model for Whole<'a> {
     ghost use Rattle.std.specs.Prelude.{◌≡◌, List};
-    ghost use Rattle.rs_parse.specs.Lexeme.{Lexeme, lexemes, token_kinds};
+    ghost use Rattle.rs_grammar.specs.Lexeme.{Lexeme, lexemes, token_kinds};
 
     ghost Value = { List Lexeme };
 
@@ -179,7 +179,7 @@ pub(crate) struct Tokens<'a> {
 
 impl<'a> Model for Tokens<'a> {
     ghost use Rattle.std.specs.Prelude.{List};
-    ghost use Rattle.rs_parse.specs.Lexeme.{Lexeme, seen};
+    ghost use Rattle.rs_grammar.specs.Lexeme.{Lexeme, seen};
 
     ghost Value = { List Lexeme };
 

@@ -1,6 +1,6 @@
 //! Types where the text names them.
 
-ghost use Rattle.rs_parse.specs.Grammar.{Nt, Opt, TypeName, Typing, Gives};
+ghost use Rattle.rs_grammar.specs.Grammar.{Nt, Opt, TypeName, Typing, Gives};
 ghost use Rattle.rs_parse.specs.Reading.{Reading};
 
 use crate::fault::Fault;

@@ -1,6 +1,6 @@
 use Rattle.std.proofs.Common.{sym}
-use Rattle.rs_parse.specs.Grammar.{Nt, Rest, Body}
-use Rattle.rs_parse.specs.Reads.{r-no_nt, r-first, r-no_left, r-no_right, r-no_ahead, r-no_other_way}
+use Rattle.rs_grammar.specs.Grammar.{Nt, Rest, Body}
+use Rattle.rs_grammar.specs.Parses.{r-no_nt, r-first, r-no_left, r-no_right, r-no_ahead, r-no_other_way}
 use Rattle.rs_parse.specs.Blocks.{assignment, assigned}
 use Rattle.rs_parse.proofs.Blocks.{passes_one, passes_one_made, none_more, worded_turn, assign_turn, eval_turn, last_turn}
 use Rattle.rs_parse.proofs.body.one_more.Goals as goal

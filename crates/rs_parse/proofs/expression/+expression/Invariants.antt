@@ -1,5 +1,5 @@
 use Rattle.std.proofs.Common.{◌+◌, ◌*◌, length}
-use Rattle.rs_parse.specs.Grammar.{Nt, AndNext, Empty, Expression, OrNext, ProductNext, SumNext}
+use Rattle.rs_grammar.specs.Grammar.{Nt, AndNext, Empty, Expression, OrNext, ProductNext, SumNext}
 use Rattle.rs_tree.specs.declared.kind.Kind.TheVariants as k
 use Rattle.rs_parse.specs.Reading.{Turns, TailTurns}
 use Rattle.rs_parse.proofs.expression.+expression.Given as goal

@@ -1,9 +1,9 @@
 use Rattle.std.proofs.Common.{inl}
-use Rattle.rs_parse.specs.Grammar.{Definition}
-use Rattle.rs_parse.specs.Reads.{r-seq, r-first, r-second}
+use Rattle.rs_grammar.specs.Grammar.{Definition}
+use Rattle.rs_grammar.specs.Parses.{r-seq, r-first, r-second}
 use Rattle.rs_parse.proofs.Makes.{makes, passes_as}
 use Rattle.rs_parse.specs.Blocks.{public_constant}
-use Rattle.rs_parse.specs.Grammar.{made}
+use Rattle.rs_grammar.specs.Grammar.{made}
 use Rattle.rs_parse.proofs.item.public_constant.Goals as goal
 
 pub returns-in_err-expect : goal.returns-in_err-expect

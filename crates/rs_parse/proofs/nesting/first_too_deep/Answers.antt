@@ -1,5 +1,6 @@
 use Rattle.std.proofs.Common.{arith, refl}
-use Rattle.rs_parse.proofs.Nested.{nothing_shallow, depth_next, shallow_next, too_deep}
+use Rattle.rs_grammar.proofs.Depths.{nothing_shallow}
+use Rattle.rs_parse.proofs.Nested.{depth_next, shallow_next, too_deep}
 use Rattle.rs_parse.proofs.nesting.first_too_deep.Goals as goal
 
 pub loop-i-init : goal.loop-i-init

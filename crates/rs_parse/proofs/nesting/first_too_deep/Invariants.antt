@@ -1,6 +1,6 @@
 use Rattle.std.proofs.Common.{◌≡◌, ◌≤◌, take}
-use Rattle.rs_parse.specs.Lexeme.{lexemes}
-use Rattle.rs_parse.specs.Nesting.{IsShallow, depth}
+use Rattle.rs_grammar.specs.Lexeme.{lexemes}
+use Rattle.rs_grammar.specs.Nesting.{IsShallow, depth}
 use Rattle.rs_parse.proofs.nesting.first_too_deep.Given as goal
 
 abbrev pub invariant-loop-i : goal.invariant-loop-i

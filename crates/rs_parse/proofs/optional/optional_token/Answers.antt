@@ -1,5 +1,5 @@
 use Rattle.std.proofs.Common.{sym}
-use Rattle.rs_parse.specs.Reads.{r-none, r-some}
+use Rattle.rs_grammar.specs.Parses.{r-none, r-some}
 use Rattle.rs_parse.proofs.Exits.{read}
 use Rattle.rs_parse.proofs.optional.optional_token.Goals as goal
 

@@ -1,5 +1,5 @@
 use Rattle.std.proofs.Common.{sym}
-use Rattle.rs_parse.specs.Reads.{r-none, r-some, r-held}
+use Rattle.rs_grammar.specs.Parses.{r-none, r-some, r-held}
 use Rattle.rs_parse.proofs.Exits.{passes, read}
 use Rattle.rs_tree.specs.Kinds.{code}
 use Rattle.rs_parse.proofs.params.optional_params.Goals as goal

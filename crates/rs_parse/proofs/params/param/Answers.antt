@@ -1,6 +1,6 @@
-use Rattle.rs_parse.specs.Grammar as grammar
-use Rattle.rs_parse.specs.Grammar.{Nt, Tok, Opt, Rep, Empty, TypeName}
-use Rattle.rs_parse.specs.Reads.{r-nt, r-no_nt, r-seq, r-first, r-second}
+use Rattle.rs_grammar.specs.Grammar as grammar
+use Rattle.rs_grammar.specs.Grammar.{Nt, Tok, Opt, Rep, Empty, TypeName}
+use Rattle.rs_grammar.specs.Parses.{r-nt, r-no_nt, r-seq, r-first, r-second}
 use Rattle.rs_parse.proofs.Exits.{passes, read_as}
 use Rattle.rs_parse.proofs.params.param.Goals as goal
 

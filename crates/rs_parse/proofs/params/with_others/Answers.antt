@@ -1,6 +1,6 @@
 use Rattle.std.proofs.Common.{[], ◌∷◌, ◌++◌, Some, None, sym, ap, ◌∙◌, append-nil}
-use Rattle.rs_parse.specs.Grammar.{Nt, OtherParams}
-use Rattle.rs_parse.specs.Reads.{r-nt, r-no_nt, r-tail_stop, r-empty}
+use Rattle.rs_grammar.specs.Grammar.{Nt, OtherParams}
+use Rattle.rs_grammar.specs.Parses.{r-nt, r-no_nt, r-tail_stop, r-empty}
 use Rattle.rs_parse.proofs.Exits.{tail_none, tail_more, tail_last, tail_no_turn}
 use Rattle.rs_parse.proofs.Makes.{makes, passes_as}
 use Rattle.rs_tree.specs.Kinds.{code}

@@ -1,8 +1,8 @@
 use Rattle.std.proofs.Common.{◌≡◌, ◌∷◌, List, length}
 use Rattle.rs_tree.specs.declared.kind.Kind.TheVariants as k
 use Rattle.rs_tree.specs.declared.tree.Param as param
-use Rattle.rs_parse.specs.Grammar as grammar
-use Rattle.rs_parse.specs.Grammar.{Nt, Empty}
+use Rattle.rs_grammar.specs.Grammar as grammar
+use Rattle.rs_grammar.specs.Grammar.{Nt, Empty}
 use Rattle.rs_parse.specs.Reading.{TailTurns}
 use Rattle.rs_parse.proofs.params.with_others.Given as goal
 

@@ -1,5 +1,5 @@
 use Rattle.std.proofs.Common.{sym, ap, ◌∙◌, unwrap_or}
-use Rattle.rs_parse.proofs.Reached.{has_pieces, fault_left, fault_here}
+use Rattle.rs_parse.proofs.Reached.{has_sections, fault_left, fault_here}
 use Rattle.rs_parse.proofs.parser.read_all.Goals as goal
 
 pub returns-in-Err-Syntax-clause-fault : goal.returns-in-Err-Syntax-clause-fault
@@ -9,4 +9,4 @@ pub returns-in-Some-clause-fault : goal.returns-in-Some-clause-fault
 returns-in-Some-clause-fault c = fault_left c.args.tokens.now _ _ c.new-rest.ensures _ _ c.args.end c.in-Some.at c.requires.shallow (sym c.at-2.ensures ∙ c.in-Some.is) c.in-Ok.ensures
 
 pub returns-in-None-clause-found : goal.returns-in-None-clause-found
-returns-in-None-clause-found c = has_pieces c.args.tokens.now _ _ c.new-rest.ensures _ _ c.new-found.ensures (sym c.at-2.ensures ∙ c.in-None.is) c.in-Ok.ensures
+returns-in-None-clause-found c = has_sections c.args.tokens.now _ _ c.new-rest.ensures _ _ c.new-found.ensures (sym c.at-2.ensures ∙ c.in-None.is) c.in-Ok.ensures

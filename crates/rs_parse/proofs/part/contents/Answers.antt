@@ -1,6 +1,6 @@
 use Rattle.std.proofs.Common.{◌∙◌}
-use Rattle.rs_parse.specs.Grammar.{Contents, Module}
-use Rattle.rs_parse.specs.Reads.{r-nt, r-no_nt, r-seq, r-first, r-second}
+use Rattle.rs_grammar.specs.Grammar.{Contents, Module}
+use Rattle.rs_grammar.specs.Parses.{r-nt, r-no_nt, r-seq, r-first, r-second}
 use Rattle.rs_parse.specs.Building.{with_items, with_name}
 use Rattle.rs_parse.proofs.Adds.{adds, add_passes, add_passes_on}
 use Rattle.rs_parse.proofs.part.contents.Goals as goal

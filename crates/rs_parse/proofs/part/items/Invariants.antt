@@ -1,5 +1,5 @@
 use Rattle.std.proofs.Common.{length}
-use Rattle.rs_parse.specs.Grammar.{Nt, Item}
+use Rattle.rs_grammar.specs.Grammar.{Nt, Item}
 use Rattle.rs_parse.specs.Building.{AddTurns, with_items}
 use Rattle.rs_parse.proofs.part.items.Given as goal
 

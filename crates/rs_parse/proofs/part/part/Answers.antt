@@ -1,6 +1,6 @@
 use Rattle.std.proofs.Common.{sym, ap, ◌∙◌, inl, inr, refl, List, ℕ}
-use Rattle.rs_parse.specs.Grammar.{Nt, Part, Alone, Contents}
-use Rattle.rs_parse.specs.Reads.{r-nt, r-no_nt, r-seq, r-first, r-second, r-ahead, r-no_ahead, r-other_way, r-no_other_way, r-left, r-right, r-no_left, r-no_right}
+use Rattle.rs_grammar.specs.Grammar.{Nt, Part, Alone, Contents}
+use Rattle.rs_grammar.specs.Parses.{r-nt, r-no_nt, r-seq, r-first, r-second, r-ahead, r-no_ahead, r-other_way, r-no_other_way, r-left, r-right, r-no_left, r-no_right}
 use Rattle.rs_parse.specs.Building.{with_item}
 use Rattle.rs_parse.proofs.Adds.{adds, add_passes, add_hands}
 use Rattle.rs_parse.proofs.part.part.Goals as goal
@@ -30,4 +30,4 @@ returns-in_err-sited c = add_passes c.in_err-sited.field-0.0 c.from_residual-in_
 
 pub returns : goal.returns
 returns c = adds (Alone _) (r-nt {n = Part} {x = inr (inr _)} (r-other_way (sym c.if-sees_pub_mod.ensures) (r-right (sym c.if-sees.ensures) c.in_ok-sited.ensures.is)))
-    (c.in_ok-add_item.ensures ∙ ap (λ (m : List ℕ). with_item m c.args.into.now (record { at = c.in_ok-sited.sited.at; placed = c.in_ok-sited.sited.placed })) c.new.ensures)
+    (c.in_ok-add_item.ensures ∙ ap (λ (m : List ℕ). with_item m c.args.into.now c.in_ok-sited.sited) c.new.ensures)

@@ -1,6 +1,6 @@
 use Rattle.std.proofs.Common.{inl, inr, sym}
-use Rattle.rs_parse.specs.Grammar.{Route}
-use Rattle.rs_parse.specs.Reads.{r-nt, r-no_nt, r-seq, r-first, r-second, r-left, r-right, r-no_left, r-no_right}
+use Rattle.rs_grammar.specs.Grammar.{Route}
+use Rattle.rs_grammar.specs.Parses.{r-nt, r-no_nt, r-seq, r-first, r-second, r-left, r-right, r-no_left, r-no_right}
 use Rattle.rs_parse.proofs.Exits.{passes, read_as}
 use Rattle.rs_parse.proofs.route.route.Goals as goal
 

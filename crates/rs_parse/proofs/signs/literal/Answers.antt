@@ -1,6 +1,6 @@
 use Rattle.std.proofs.Common.{inl, inr, sym}
-use Rattle.rs_parse.specs.Grammar.{Literal}
-use Rattle.rs_parse.specs.Reads.{r-nt, r-no_nt, r-left, r-right, r-no_right}
+use Rattle.rs_grammar.specs.Grammar.{Literal}
+use Rattle.rs_grammar.specs.Parses.{r-nt, r-no_nt, r-left, r-right, r-no_right}
 use Rattle.rs_parse.proofs.Exits.{passes, read_as}
 use Rattle.rs_parse.proofs.signs.literal.Goals as goal
 use Rattle.rs_parse.proofs.Steps.{read_kind}

@@ -1,6 +1,6 @@
 use Rattle.std.proofs.Common.{inl, inr, sym}
-use Rattle.rs_parse.specs.Grammar.{ProductSign}
-use Rattle.rs_parse.specs.Reads.{r-nt, r-no_nt, r-left, r-right, r-no_right}
+use Rattle.rs_grammar.specs.Grammar.{ProductSign}
+use Rattle.rs_grammar.specs.Parses.{r-nt, r-no_nt, r-left, r-right, r-no_right}
 use Rattle.rs_parse.proofs.Exits.{passes, read}
 use Rattle.rs_parse.proofs.signs.product_sign.Goals as goal
 

@@ -1,6 +1,6 @@
 use Rattle.std.proofs.Common.{inl, inr, sym, ap}
-use Rattle.rs_parse.specs.Grammar.{UnarySign}
-use Rattle.rs_parse.specs.Reads.{r-nt, r-no_nt, r-left, r-right, r-no_right}
+use Rattle.rs_grammar.specs.Grammar.{UnarySign}
+use Rattle.rs_grammar.specs.Parses.{r-nt, r-no_nt, r-left, r-right, r-no_right}
 use Rattle.rs_parse.proofs.Exits.{passes, read_as}
 use Rattle.rs_parse.proofs.signs.unary_sign.Goals as goal
 use Rattle.rs_tree.specs.declared.tree.UnaryOp.TheVariants as u

@@ -1,6 +1,6 @@
 use Rattle.std.proofs.Common.{◌+◌, ◌*◌, length}
 use Rattle.rs_tree.specs.declared.kind.Kind.TheVariants as k
-use Rattle.rs_parse.specs.Grammar.{Nt, Arm, Block, Statement}
+use Rattle.rs_grammar.specs.Grammar.{Nt, Arm, Block, Statement}
 use Rattle.rs_parse.specs.Reading.{Turns, TailTurns}
 use Rattle.rs_parse.proofs.statement.+statement.Given as goal
 

@@ -1,5 +1,5 @@
 use Rattle.std.proofs.Common.{◌≡◌, map, take}
-use Rattle.rs_parse.specs.Lexeme.{lexeme, moved, token}
+use Rattle.rs_grammar.specs.Lexeme.{lexeme, moved, token}
 use Rattle.rs_parse.proofs.tokens.copies_of.Given as goal
 
 abbrev pub invariant-loop-from : goal.invariant-loop-from

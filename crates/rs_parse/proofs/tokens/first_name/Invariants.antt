@@ -1,5 +1,5 @@
 use Rattle.std.proofs.Common.{◌≡◌, drop}
-use Rattle.rs_parse.specs.Lexeme.{lexemes, name_place}
+use Rattle.rs_grammar.specs.Lexeme.{lexemes, name_place}
 use Rattle.rs_parse.proofs.tokens.first_name.Given as goal
 
 abbrev pub invariant-loop-i : goal.invariant-loop-i

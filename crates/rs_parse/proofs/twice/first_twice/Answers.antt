@@ -1,7 +1,9 @@
 use Rattle.std.proofs.Common.{sym, subst, List}
-use Rattle.rs_parse.specs.declared.twice.Named.{Named}
-use Rattle.rs_parse.specs.Twice.{AllOnce}
-use Rattle.rs_parse.proofs.Once.{one_more, held_more, once_more, was_seen, first_is, not_true, not_false}
+use Rattle.rs_grammar.specs.declared.named.Named.{Named}
+use Rattle.rs_grammar.specs.Twice.{AllOnce}
+use Rattle.rs_grammar.proofs.Lists.{one_more}
+use Rattle.rs_grammar.proofs.Names.{once_more}
+use Rattle.rs_parse.proofs.Once.{held_more, was_seen, first_is, not_true, not_false}
 use Rattle.rs_parse.proofs.twice.first_twice.Goals as goal
 
 pub returns-then-not-branch : goal.returns-then-not-branch

@@ -1,7 +1,8 @@
 use Rattle.std.proofs.Common.{◌≡◌, take}
 use Rattle.std.specs.BTreeSet.{contains}
-use Rattle.rs_parse.specs.Twice.{AllOnce}
-use Rattle.rs_parse.proofs.Once.{Held, held_cmp, plain, seen_by}
+use Rattle.rs_grammar.specs.Twice.{AllOnce}
+use Rattle.rs_parse.proofs.Once.{Held, held_cmp, plain}
+use Rattle.rs_grammar.proofs.Names.{seen_by}
 use Rattle.rs_parse.proofs.twice.first_twice.Given as goal
 
 abbrev pub invariant-loop-named : goal.invariant-loop-named

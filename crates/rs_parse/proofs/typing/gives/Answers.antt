@@ -1,5 +1,5 @@
-use Rattle.rs_parse.specs.Grammar.{Nt, Gives}
-use Rattle.rs_parse.specs.Reads.{r-nt, r-no_nt, r-seq, r-first, r-second}
+use Rattle.rs_grammar.specs.Grammar.{Nt, Gives}
+use Rattle.rs_grammar.specs.Parses.{r-nt, r-no_nt, r-seq, r-first, r-second}
 use Rattle.rs_parse.specs.Reading.{Reading}
 use Rattle.rs_parse.proofs.Exits.{passes, hands, as_is}
 use Rattle.rs_parse.proofs.typing.gives.Goals as goal

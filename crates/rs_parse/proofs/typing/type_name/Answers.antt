@@ -1,6 +1,6 @@
 use Rattle.std.proofs.Common.{sym, inl, inr}
-use Rattle.rs_parse.specs.Grammar.{TypeName}
-use Rattle.rs_parse.specs.Reads.{r-nt, r-no_nt, r-left, r-right, r-no_right}
+use Rattle.rs_grammar.specs.Grammar.{TypeName}
+use Rattle.rs_grammar.specs.Parses.{r-nt, r-no_nt, r-left, r-right, r-no_right}
 use Rattle.rs_parse.proofs.Exits.{passes, read}
 use Rattle.rs_parse.proofs.typing.type_name.Goals as goal
 

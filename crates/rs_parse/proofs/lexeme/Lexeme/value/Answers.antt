@@ -1,8 +1,8 @@
 use Rattle.std.proofs.Common.{rules, ◌≡◌, true, ap, sym, ◌∙◌}
 use Rattle.rs_tree.specs.Words.{is_number}
 use Rattle.rs_tree.specs.declared.kind.Kind.TheVariants as k
-use Rattle.rs_parse.specs.Lexeme.{Lexeme}
-use Rattle.rs_parse.proofs.Numbers.{number_text}
+use Rattle.rs_grammar.specs.Lexeme.{Lexeme}
+use Rattle.rs_grammar.proofs.Texts.{number_text}
 use Rattle.rs_parse.proofs.lexeme.Lexeme.value.Goals as goal
 
 pub unwrap-requires : goal.unwrap-requires

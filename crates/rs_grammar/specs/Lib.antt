@@ -1,0 +1,14 @@
+pub mod Lexeme
+pub mod Grammar
+pub mod Sets
+pub mod Parses
+pub mod Fine
+pub mod Correct
+pub mod Twice
+pub mod Nesting
+pub mod Written
+pub mod There
+pub mod Again
+pub mod Lexed
+pub mod Tidy
+pub mod Places

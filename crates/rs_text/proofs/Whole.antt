@@ -3,6 +3,9 @@ use Rattle.std.proofs.Common.{◌≡◌, ℕ, ◌⊎◌, inl, inr, List, Result,
 use Rattle.rs_tree.specs.declared.place.At.{At}
 use Rattle.rs_tree.specs.declared.token.Token.{Token}
 use Rattle.rs_tree.specs.declared.tree.Crate.{Crate}
+use Rattle.rs_lex.specs.Faults.{IsLexRefusal}
+use Rattle.rs_lex.specs.declared.fault.LexFault.{LexFault}
+use Rattle.rs_lex.specs.declared.fault.LexFault.TheVariants as lex
 use Rattle.rs_lex.specs.Places.{place_of}
 use Rattle.rs_lex.specs.Tokens.{HasTokens, HasFault}
 use Rattle.rs_lex.proofs.Total.{texts_are_answered, one_answer}
@@ -74,6 +77,11 @@ read_so bytes tokens r are p = ap parsed_text (parsed_only tokens (place_of byte
 pub fault_so : (bytes : List ℕ) (at : At) → HasFault bytes at → Err (text.Byte at) ≡ text_of bytes
 unfolding text_of
 fault_so bytes at p = ap (lexed_text (place_of bytes)) (lexed_only bytes (Err at) p)
+
+-- what the lexer refuses, in the form that a match has it
+pub byte_so : (bytes : List ℕ) (f : LexFault) (at : At) → f ≡ lex.At at → IsLexRefusal bytes f → text_of bytes ≡ Err (text.Byte at)
+byte_so bytes (lex.At to) at e p = let same : to ≡ at = cc in sym (fault_so bytes at (subst (HasFault bytes) same p))
+byte_so bytes lex.Memory at e p = absurd cc
 
 pub refusal_so : (bytes : List ℕ) (tokens : List Token) (end : At) → HasTokens bytes tokens → end ≡ place_of bytes → (f : SyntaxFault) → IsRefusal tokens end f → IsTextRefusal bytes (fault_of f)
 refusal_so bytes tokens end are e (syntax.Nesting at) p = sym (read_so bytes tokens (Err (syntax.Nesting at)) are (p, λ z. cc))

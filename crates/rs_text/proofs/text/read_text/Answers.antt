@@ -1,11 +1,11 @@
 use Rattle.std.proofs.Common.{Ok, sym, subst}
 use Rattle.rs_lex.specs.Tokens.{HasTokens}
 use Rattle.rs_text.specs.Text.{IsTextRefusal}
-use Rattle.rs_text.proofs.Whole.{fault_so, read_so, refusal_so}
+use Rattle.rs_text.proofs.Whole.{byte_so, read_so, refusal_so}
 use Rattle.rs_text.proofs.text.read_text.Goals as goal
 
 pub returns-in-Err-At-clause-fault : goal.returns-in-Err-At-clause-fault
-returns-in-Err-At-clause-fault c = sym (fault_so c.args.text.now _ c.in-Err-At.ensures.fault)
+returns-in-Err-At-clause-fault c = cc (byte_so c.args.text.now c.in-Err-At.field-0 _ c.in-Err-At.field-0-is c.in-Err-At.ensures.fault, c.in-Err-At.at-is)
 
 pub returns-in-Ok-parse-clause-tree : goal.returns-in-Ok-parse-clause-tree
 returns-in-Ok-parse-clause-tree c =

@@ -21,7 +21,7 @@ use std::alloc::Global;
 /// "Faults"). `end` is the place after the text's last byte.
 ///
 /// The faults come in this order: nesting over 64, then syntax, then a name defined twice, each at its first
-/// place. What is no token counts as a keyword that no form has. `Memory` comes only for want of memory. The
+/// place. What is no token counts as a keyword that no form has. `Memory` comes for want of memory. The
 /// places of an item are relative to its first token, as far as the tokens' places ascend.
 pub fn parse(alloc: Global, tokens: &[Token], end: At) -> Result<Crate, SyntaxFault>
     ensures tree { IfOk result (HasTree tokens.now) }

@@ -84,7 +84,7 @@ impl<R: Files<File = File> + AllocGlobal + Clock + Clone + Drop> Folder<R> {
     {
         let now = self.rt.since_1970()?.as_micros();
         let Ok(moment) = u64::try_from(now) else {
-            return Err(Trouble::Outside);
+            return Err(Trouble::Outside(None));
         };
         let first = self.random.next_u32();
         let (moment, random) = self.draws.draw(moment, first)?;
@@ -190,7 +190,7 @@ impl<R: Files<File = File> + AllocGlobal + Clock + Clone + Drop> Folder<R> {
             Ok(file) => {
                 let bytes = read_to(self.rt.alloc(), &mut StdSource::new(Some(file)), LONGEST)?;
                 if bytes.len() > LONGEST {
-                    return Err(Trouble::Outside);
+                    return Err(Trouble::Outside(None));
                 }
                 Ok(Reply::Bytes(bytes))
             }
@@ -325,7 +325,7 @@ impl<R: Files<File = File> + AllocGlobal + Clock + Clone + Drop> Folder<R> {
 
 fn push_label(path: &mut String, label: &Label) -> Result<(), Trouble> {
     let Ok(text) = str::from_utf8(label.bytes()) else {
-        return Err(Trouble::Outside);
+        return Err(Trouble::Outside(None));
     };
     path.push_str(text)?;
     Ok(())

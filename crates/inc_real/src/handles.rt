@@ -109,7 +109,7 @@ impl Handle {
         }
         if let Some(old) = before {
             if !grant(&self.file, old)? {
-                return Err(Trouble::Outside);
+                return Err(Trouble::Outside(None));
             }
             self.mode = before;
         }

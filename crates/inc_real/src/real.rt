@@ -24,6 +24,7 @@ pub struct RealDir<R: Drop> {
     folder: Folder<R>,
     runs: bool,
     faults: u64,
+    failure: Option<i32>,
 }
 
 impl<R: Drop> Model for RealDir<R> {
@@ -47,7 +48,14 @@ impl<R: Files<File = File> + AllocGlobal + Clock + Clone + Drop> RealDir<R> {
             folder: Folder::new(rt, root, seed)?,
             runs: false,
             faults: 0,
+            failure: None,
         })
+    }
+
+    /// The system's number of the error at the last step that was answered `Fault`: `None` where there was no
+    /// such step, and where it failed without one.
+    pub fn failure(&self) -> Option<i32> {
+        self.failure
     }
 }
 
@@ -69,7 +77,10 @@ impl<R: Files<File = File> + AllocGlobal + Clock + Clone + Drop> Dir for RealDir
     fn act(&mut self, op: Op) -> Result<Reply, Memory> {
         let reply = match self.folder.step(&op) {
             Ok(reply) => reply,
-            Err(Trouble::Outside) => Reply::Fault,
+            Err(Trouble::Outside(failure)) => {
+                self.failure = failure;
+                Reply::Fault
+            }
             Err(Trouble::Memory) => return Err(Memory),
         };
         if reply.is_fault() {

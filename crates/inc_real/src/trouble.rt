@@ -9,8 +9,8 @@ use std::io::ErrorKind;
 pub enum Trouble {
     /// There is no memory, or no handle's number is left.
     Memory,
-    /// The system failed.
-    Outside,
+    /// The system failed. It has the system's number of the error, where there is one.
+    Outside(Option<i32>),
 }
 
 impl From<Memory> for Trouble {
@@ -35,7 +35,7 @@ impl From<io::Error> for Trouble {
     fn from(error: io::Error) -> Trouble {
         match error.kind() {
             ErrorKind::OutOfMemory => Trouble::Memory,
-            _ => Trouble::Outside,
+            _ => Trouble::Outside(error.raw_os_error()),
         }
     }
 }
@@ -43,7 +43,7 @@ impl From<io::Error> for Trouble {
 impl From<ReadFault> for Trouble {
     fn from(fault: ReadFault) -> Trouble {
         match fault {
-            ReadFault::Source => Trouble::Outside,
+            ReadFault::Source => Trouble::Outside(None),
             ReadFault::Memory => Trouble::Memory,
         }
     }

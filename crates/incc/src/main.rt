@@ -2,26 +2,68 @@
 //!
 //! It opens what its words name, hands all of it to `inc_cli::run`, and ends with the status that this
 //! answers. `inc_cli` reads the words and decides each status, and `inc_real` is the directory on the system's
-//! files. Open `main` first.
+//! files. Open `main` first, and then `ImageFile` in `image`.
 #![tactic(auto)]
 
+mod image;
+mod messages;
+mod patient;
+mod standard;
+
+ghost use Rattle.incc.specs.Endings.{EndsAs};
+
+use image::ImageFile;
 use inc_base::{Bytes, Memory, Meter, Sink, StdSink, StdSource, write_all};
 use inc_cli::{OpenPlaces, Status, places, run};
 use inc_real::RealDir;
+use messages::{say, show_usage};
+use patient::Patient;
+use standard::Standard;
 use std::fs::{File, Files};
-use std::io::ErrorKind;
+use std::io::{Eprint, ErrorKind, Printer};
 use std::process::ExitCode;
 use std::random::RandomSource;
 use std::rt::Env;
 use std::time::Clock;
-use std::{env, io, str};
+use std::{env, io, process, str};
+
+/// What the standard output is called in what is said to a person.
+const OUTPUT: &str = "standard output";
 
 fn main(rt: HostRuntime) -> ExitCode {
-    let mut out = StdSink::new(Some(io::writer(&rt)));
-    ExitCode::from(match call(&rt, &mut out) {
+    // It comes first, and is held to the end.
+    let standard = Standard::taken(&rt);
+    let code = with_output(&rt, process::id(rt.process()), &standard);
+    if code == Status::BadWords.code() {
+        show_usage(&rt);
+    }
+    drop(standard);
+    ExitCode::from(code)
+}
+
+/// Makes the call of the process's words, and answers its status.
+fn with_output(rt: &HostRuntime, process: u32, standard: &io::Result<Standard>) -> u8 {
+    let mut out = StdSink::new(output(rt, standard));
+    match call(rt, process, standard.is_ok(), &mut out) {
         Ok(code) => code,
         Err(Memory) => refuse(Status::OutOfMemory, &mut out),
-    })
+    }
+}
+
+/// The standard output: `None` where the process was started without one.
+fn output<'a>(
+    rt: &'a HostRuntime,
+    standard: &io::Result<Standard>,
+) -> Option<Patient<'a, HostRuntime, Printer<'a, HostRuntime>>> {
+    match standard {
+        Ok(standard) if standard.lacks_output() => {
+            say(rt, OUTPUT, &io::Error::from_raw_os_error(libc::EBADF));
+            return None;
+        }
+        Ok(_) => {}
+        Err(e) => say(rt, "standard streams", e),
+    }
+    Some(Patient::new(rt, OUTPUT, io::writer(rt)))
 }
 
 /// Ends before the call that would refuse. That its line can't be written changes no status.
@@ -30,10 +72,11 @@ fn refuse<O: Sink>(status: Status, out: &mut O) -> u8 {
     status.code()
 }
 
-/// Makes the call of the process's words, and answers its status.
-fn call<R, O: Sink>(rt: &R, out: &mut O) -> Result<u8, Memory>
+/// Opens what the words name and makes the call. Where a standard stream may be missing, nothing is opened,
+/// and the source counts as one that can't be.
+fn call<R, O: Sink>(rt: &R, process: u32, is_ready: bool, out: &mut O) -> Result<u8, Memory>
 where
-    R: Files<File = File> + AllocGlobal + Clock + Env + RandomSource + Clone + Drop,
+    R: Files<File = File> + AllocGlobal + Clock + Env + RandomSource + Eprint + Clone + Drop,
 {
     let words = given_words(rt)?;
     let mut texts = Vec::new(rt.alloc());
@@ -41,28 +84,37 @@ where
         texts.push(word.as_str())?;
     }
     let open = match places(rt.alloc(), &texts)? {
-        Some(open) => open,
+        Some(open) if is_ready => open,
         // The call refuses the words, and touches nothing.
-        None => OpenPlaces {
+        _ => OpenPlaces {
             root: None,
             src: None,
             image: None,
         },
     };
-    let mut src = StdSource::new(opened(rt, &open.src));
-    let mut image = StdSink::new(created(rt, &open.image));
     let root = text(&open.root).unwrap_or("");
     let mut dir = RealDir::new(rt.clone()?, root, seed(rt))?;
+    let source = opened(rt, text(&open.src));
+    let image = made(rt, text(&open.image), &source, process)?;
+    let src_name = text(&open.src).unwrap_or("");
+    let image_name = text(&open.image).unwrap_or("");
+    let mut src = StdSource::new(reader(rt, src_name, &source));
+    let mut sink = StdSink::new(writer(rt, image_name, &image));
     let mut meter = Meter::new();
-    Ok(run(
+    let code = run(
         rt.alloc(),
         &texts,
         &mut src,
         &mut dir,
         out,
-        &mut image,
+        &mut sink,
         &mut meter,
-    ))
+    );
+    drop(sink);
+    if code == Status::DirectoryFault.code() {
+        say(rt, root, &failure_of(dir.failure()));
+    }
+    Ok(settled(rt, image_name, image, code))
 }
 
 /// The words after the program's name. Where one is no text, there are none.
@@ -87,19 +139,83 @@ fn text(place: &Option<Bytes>) -> Option<&str> {
     }
 }
 
+/// The error with the system's number, where there is one.
+fn failure_of(number: Option<i32>) -> io::Error {
+    match number {
+        Some(number) => io::Error::from_raw_os_error(number),
+        None => io::Error::other("It failed"),
+    }
+}
+
 /// The file of a place, to be read: `None` where there is none or it can't be opened.
-fn opened<R: Files<File = File>>(rt: &R, place: &Option<Bytes>) -> Option<File> {
-    match text(place) {
-        Some(path) => File::open(rt, path).ok(),
+fn opened<R: Files<File = File> + AllocGlobal + Eprint>(
+    rt: &R,
+    place: Option<&str>,
+) -> Option<File> {
+    let path = place?;
+    match File::open(rt, path) {
+        Ok(file) => Some(file),
+        Err(e) => {
+            say(rt, path, &e);
+            None
+        }
+    }
+}
+
+/// The file of an image: `None` where there is no place for it or no source, and where it can't be opened.
+fn made<R: Files<File = File> + AllocGlobal + Eprint>(
+    rt: &R,
+    place: Option<&str>,
+    source: &Option<File>,
+    process: u32,
+) -> Result<Option<ImageFile>, Memory> {
+    let (Some(path), Some(source)) = (place, source) else {
+        return Ok(None);
+    };
+    match ImageFile::open(rt, path, source, process) {
+        Ok(file) => Ok(Some(file)),
+        Err(e) if e.kind() == ErrorKind::OutOfMemory => Err(Memory),
+        Err(e) => {
+            say(rt, path, &e);
+            Ok(None)
+        }
+    }
+}
+
+fn reader<'a, R>(
+    rt: &'a R,
+    name: &'a str,
+    source: &'a Option<File>,
+) -> Option<Patient<'a, R, &'a File>> {
+    match source {
+        Some(file) => Some(Patient::new(rt, name, file)),
         None => None,
     }
 }
 
-/// The file of a place, emptied, to be written: `None` where there is none or it can't be made.
-fn created<R: Files<File = File>>(rt: &R, place: &Option<Bytes>) -> Option<File> {
-    match text(place) {
-        Some(path) => File::create(rt, path).ok(),
+fn writer<'a, R>(
+    rt: &'a R,
+    name: &'a str,
+    image: &'a Option<ImageFile>,
+) -> Option<Patient<'a, R, &'a File>> {
+    match image {
+        Some(image) => Some(Patient::new(rt, name, &image.file)),
         None => None,
+    }
+}
+
+/// Ends the image's file as the status of the call wants, and answers the status of the process.
+fn settled<R: Files<File = File> + AllocGlobal + Eprint>(
+    rt: &R,
+    name: &str,
+    image: Option<ImageFile>,
+    code: u8,
+) -> u8
+    ensures { EndsAs code result }
+{
+    match image {
+        Some(image) => image.settle(rt, name, code),
+        None => code,
     }
 }
 

@@ -5,7 +5,6 @@ use inc_cli::Status;
 use std::alloc::AllocGlobal;
 use std::fs::{File, Files, Metadata, OpenOptions, Permissions};
 use std::io::{Eprint, ErrorKind};
-use std::os::fd::IntoRawFd;
 use std::os::unix::fs::MetadataExt;
 use std::{fs, io};
 
@@ -92,14 +91,17 @@ impl ImageFile {
         }
     }
 
-    /// Closes the file and renames it.
+    /// Sees to it that the new file is written, closes it and renames it. std passes over what the system answers
+    /// at a closing, so it is asked before.
     fn finish<R: Files<File = File>>(self, rt: &R) -> io::Result<()> {
         let ImageFile { file, moves } = self;
-        let closed = close(file);
         let Some(Move { from, to }) = moves else {
-            return closed;
+            drop(file);
+            return Ok(());
         };
-        let done = match closed {
+        let written = file.sync_all();
+        drop(file);
+        let done = match written {
             Ok(()) => fs::rename(rt, from.as_str(), to.as_str()),
             Err(e) => Err(e),
         };
@@ -115,14 +117,6 @@ impl ImageFile {
             let _ = fs::remove_file(rt, moves.from.as_str());
         }
     }
-}
-
-/// Closes a file, and answers as the system does. std passes over that answer.
-fn close(file: File) -> io::Result<()> {
-    if libc::close(file.into_raw_fd()) < 0 {
-        return Err(io::Error::from_raw_os_error(os::errno()));
-    }
-    Ok(())
 }
 
 fn place_of<R: Files<File = File> + AllocGlobal>(

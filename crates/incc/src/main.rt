@@ -30,6 +30,9 @@ use std::{env, io, process, str};
 /// What the standard output is called in what is said to a person.
 const OUTPUT: &str = "standard output";
 
+/// What the system answers of a descriptor that isn't open.
+const NOT_OPEN: i32 = 9;
+
 fn main(rt: HostRuntime) -> ExitCode {
     // It comes first, and is held to the end.
     let standard = Standard::taken(&rt);
@@ -57,7 +60,7 @@ fn output<'a>(
 ) -> Option<Patient<'a, HostRuntime, Printer<'a, HostRuntime>>> {
     match standard {
         Ok(standard) if standard.lacks_output() => {
-            say(rt, OUTPUT, &io::Error::from_raw_os_error(libc::EBADF));
+            say(rt, OUTPUT, &io::Error::from_raw_os_error(NOT_OPEN));
             return None;
         }
         Ok(_) => {}

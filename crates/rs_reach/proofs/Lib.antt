@@ -1,0 +1,7 @@
+pub mod Called
+mod Found
+mod Kept
+mod Numbered
+mod Numbers
+pub mod Steps
+mod Together

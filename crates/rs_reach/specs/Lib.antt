@@ -1,0 +1,5 @@
+pub mod Calls
+pub mod Dead
+pub mod Laws
+pub mod Places
+pub mod Search

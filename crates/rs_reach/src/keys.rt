@@ -1,0 +1,34 @@
+ghost use Rattle.std.specs.Prelude.{◌≡◌, map, IfOk};
+ghost use Rattle.rs_lookup.specs.Places.{item_name};
+ghost use Rattle.rs_reach.specs.Places.{call_names};
+
+use inc_base::{List, Memory};
+use rs_lookup::Places;
+use rs_tree::{IndexItem, Place};
+use std::alloc::Global;
+
+pub(crate) fn places_of_items<'a>(
+    alloc: Global,
+    items: &'a [IndexItem],
+) -> Result<Places<'a>, Memory>
+    ensures { IfOk result (λ p. p ≡ map item_name items.now) }
+{
+    let mut keys = Vec::new(alloc);
+    for item in items {
+        keys.push((item.module.as_slice(), item.name.as_slice()))?;
+    }
+    Places::new(alloc, keys)
+}
+
+pub(crate) fn places_of_calls<'a>(
+    alloc: Global,
+    calls: &'a [(Place, List<Place>)],
+) -> Result<Places<'a>, Memory>
+    ensures { IfOk result (λ p. p ≡ call_names calls.now) }
+{
+    let mut keys = Vec::new(alloc);
+    for (place, _) in calls {
+        keys.push((place.module.as_slice(), place.name.as_slice()))?;
+    }
+    Places::new(alloc, keys)
+}

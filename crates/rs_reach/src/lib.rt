@@ -1,0 +1,17 @@
+//! What is reached by calls: the functions that an item calls, and those that are never used.
+//!
+//! One search over the items of an index, by their numbers: each function that is found is asked for its calls.
+//! `rs_lookup` stands below, and what warns above. Open `specs/Search.antt` first, then `specs/Dead.antt`
+//! and `specs/Calls.antt`.
+#![tactic(auto)]
+
+mod calls;
+mod dead;
+mod keys;
+mod laws;
+mod marks;
+mod search;
+
+pub use calls::calls_of;
+pub use dead::dead_items;
+pub use laws::search_is_exact;

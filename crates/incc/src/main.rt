@@ -10,6 +10,7 @@ mod messages;
 mod patient;
 mod standard;
 
+ghost use Rattle.std.specs.Prelude.{◌≡◌, false};
 ghost use Rattle.incc.specs.Endings.{EndsAs};
 
 use image::ImageFile;
@@ -101,23 +102,34 @@ where
     let image = made(rt, text(&open.image), &source, process)?;
     let src_name = text(&open.src).unwrap_or("");
     let image_name = text(&open.image).unwrap_or("");
-    let mut src = StdSource::new(reader(rt, src_name, &source));
-    let mut sink = StdSink::new(writer(rt, image_name, &image));
-    let mut meter = Meter::new();
-    let code = run(
-        rt.alloc(),
-        &texts,
-        &mut src,
-        &mut dir,
-        out,
-        &mut sink,
-        &mut meter,
+    let code = run_over(
+        rt, &texts, src_name, &source, image_name, &image, &mut dir, out,
     );
-    drop(sink);
     if code == Status::DirectoryFault.code() {
         say(rt, root, &failure_of(dir.failure()));
     }
     Ok(settled(rt, image_name, image, code))
+}
+
+/// Makes the call over what was opened, and answers its status.
+fn run_over<'a, R, O: Sink>(
+    rt: &'a R,
+    words: &[&str],
+    src_name: &'a str,
+    source: &'a Option<File>,
+    image_name: &'a str,
+    image: &'a Option<ImageFile>,
+    dir: &mut RealDir<R>,
+    out: &mut O,
+) -> u8
+where
+    R: Files<File = File> + AllocGlobal + Clock + Eprint + Clone + Drop,
+    requires { dir.old.runs ≡ false }
+{
+    let mut src = StdSource::new(reader(rt, src_name, source));
+    let mut sink = StdSink::new(writer(rt, image_name, image));
+    let mut meter = Meter::new();
+    run(rt.alloc(), words, &mut src, dir, out, &mut sink, &mut meter)
 }
 
 /// The words after the program's name. Where one is no text, there are none.

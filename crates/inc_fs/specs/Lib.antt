@@ -1,5 +1,6 @@
 pub mod Lists
 pub mod Paths
+pub mod Listed
 pub mod Lookups
 pub mod Drawn
 pub mod State

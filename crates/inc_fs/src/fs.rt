@@ -11,9 +11,9 @@ mod locks;
 mod names;
 
 use crate::drawn::DrawnPairs;
+use crate::entries::Entries;
 use crate::op::{Chance, Op, Reply};
-use crate::state::{Entry, File, Handle};
-use crate::table::Table;
+use crate::state::{File, Handle};
 use inc_base::{Copied, Label, Memory};
 use std::alloc::Global;
 use std::collections::BTreeMap;
@@ -26,7 +26,7 @@ use std::marker::Model;
 #[derive(Drop)]
 pub struct Fs {
     files: Vec<File>,
-    entries: Table<(Label, Label), Entry>,
+    entries: Entries,
     handles: BTreeMap<u32, Handle>,
     given: u32,
     drawn: DrawnPairs,
@@ -49,7 +49,7 @@ impl Fs {
     {
         Fs {
             files: Vec::new(alloc),
-            entries: Table::new(alloc),
+            entries: Entries::new(alloc),
             handles: BTreeMap::new(alloc),
             given: 0,
             drawn: DrawnPairs::new(alloc),

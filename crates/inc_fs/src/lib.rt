@@ -7,6 +7,7 @@
 #![tactic(auto)]
 
 mod drawn;
+mod entries;
 mod fs;
 mod kinds;
 pub mod laws;

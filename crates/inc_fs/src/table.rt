@@ -1,14 +1,16 @@
-ghost use Rattle.std.specs.Prelude.{◌≡◌, [], IfOk, IfNone, OnOk, OnErr, OnSome, IsTrue, ◌↔◌};
+ghost use Rattle.std.specs.Prelude.{◌≡◌, ◌∷◌, [], IfOk, IfSome, IfNone, OnOk, OnErr, IsTrue, ◌↔◌};
 ghost use Rattle.std.specs.Option.{option_copied};
 ghost use Rattle.std.specs.Map.{lookup, set_value, keys_of};
 ghost use Rattle.std.specs.BTreeMap.{insert_entry, is_at};
+ghost use Rattle.std.specs.BTreeMap.Range.{entries_between};
+ghost use Rattle.std.specs.declared.ops.Bound.TheVariants.{Included, Unbounded};
 ghost use Rattle.std.specs.List.Sorted.{IsStrictlySortedBy};
 ghost use Rattle.inc_fs.specs.Lists.{remove_entry};
-ghost use Rattle.inc_fs.specs.Paths.{names_in};
 
-use inc_base::{Copied, Label, List, Memory};
+use inc_base::{Copied, List, Memory};
 use std::alloc::Global;
 use std::collections::BTreeMap;
+use std::collections::btree_map::Range;
 use std::marker::Model;
 use std::mem;
 
@@ -72,6 +74,16 @@ impl<K: Ord + Drop, V: Drop> Table<K, V> {
         self.pairs.remove(key)
     }
 
+    /// Takes away the pair with the least key, and gives it; None exactly where there is no pair. It takes
+    /// no memory.
+    pub fn pop_first(&mut self) -> Option<(K, V)>
+        ensures first { IfSome result (λ pair. self.old ≡ pair ∷ self.new) }
+        ensures none { IfNone result (self.old ≡ []) }
+        ensures stays { IfNone result (self.new ≡ []) }
+    {
+        self.pairs.pop_first()
+    }
+
     /// Puts a value in the place of what stands at a key, and gives that back. It takes no memory.
     pub fn replace(&mut self, key: &K, value: V) -> Option<V>
         ensures value { result ≡ lookup (is_at (K.cmp key.now)) self.old }
@@ -98,18 +110,12 @@ impl<K: Ord + Copied, V> Table<K, V> {
     }
 }
 
-impl<V> Table<(Label, Label), V> {
-    /// Of the keys whose first part this is, the second parts, in order.
-    #[tactic(auto, using(crate::proofs::Listing::names_in_push, std::proofs::lemmas::Grind::common_steps))]
-    pub(crate) fn names_in(&self, alloc: Global, first: &Label) -> Result<List<Label>, Memory>
-        ensures { IfOk result (λ names. names ≡ names_in first.now (keys_of self.now)) }
+impl<K: Ord + Drop, V> Table<K, V> {
+    /// The pairs from this key on, in order.
+    pub(crate) fn pairs_from(&self, key: K) -> Range<'_, K, V>
+        ensures pairs { result ≡ entries_between K.cmp (Included key) Unbounded self.now }
+        ensures ordered { IsStrictlySortedBy K.cmp (keys_of self.now) }
     {
-        let mut names = List::new(alloc);
-        for path in self.pairs.keys() {
-            if path.0 == *first {
-                names.push(path.1.copy()?)?;
-            }
-        }
-        Ok(names)
+        self.pairs.range(key..)
     }
 }

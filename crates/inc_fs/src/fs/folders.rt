@@ -25,7 +25,7 @@ impl Fs {
         ensures looks { IfOk result (λ reply. Looks self.now krate.now reply self.now) }
         ensures answers { IfOk result (λ reply. reply ≢ Reply.Fault) }
     {
-        let names = self.entries.names_in(*self.files.allocator(), krate)?;
+        let names = self.entries.listed(*self.files.allocator(), krate)?;
         Ok(Reply::Names(names))
     }
 

@@ -7,11 +7,10 @@ ghost use Rattle.inc_fs.specs.State.{Text, path_cmp, text_cmp, folder_of};
 ghost use Rattle.inc_fs.specs.declared.state.Entry.{Entry};
 ghost use Rattle.inc_fs.specs.declared.state.Entry.TheVariants.{LockFile, Folder};
 
+use crate::entries::Entries;
 use crate::state::Entry;
 use crate::table::Table;
 use inc_base::{Label, Memory};
-
-type Entries = Table<(Label, Label), Entry>;
 
 // Takes the names out of a directory, so that they can be changed in place of being copied.
 fn take_names(entries: &mut Entries, path: &(Label, Label)) -> Table<Label, u32>

@@ -15,7 +15,7 @@ use Rattle.rs_tree.specs.declared.index.Sig.{Sig}
 use Rattle.rs_tree.specs.declared.index.TextFault.{TextFault}
 use Rattle.rs_tree.specs.declared.index.TextFault.TheVariants as f
 use Rattle.rs_forms.specs.Fits.{FitsFault, FitsIndex, FitsIndexItem, FitsPlace, FitsSig, FitsToken}
-use Rattle.rs_forms.specs.Forms.{fault_code, fault_form, index_form, index_item_form, place_form, sig_form, token_form, typ_code, typ_form}
+use Rattle.rs_forms.specs.Forms.{fault_code, fault_code_form, fault_form, index_form, index_item_form, place_form, sig_form, token_form, typ_code, typ_form}
 
 -- a value of few, by the number of its byte
 named_fronts : {X : Type 0} (code : X → ℕ) → ((x : X) → code x < 256 ^ 1) → ((x y : X) → code x ≡ code y → x ≡ y) → HasFronts (Always {X = X}) (λ x. number_form 1 (code x))
@@ -34,12 +34,12 @@ typ_same t.Int t.Bool e = absurd (cc)
 typ_same t.Bool t.Unit e = absurd (cc)
 typ_same t.Bool t.Int e = absurd (cc)
 
-typ_small : (x : Typ) → typ_code x < 256 ^ 1
+pub typ_small : (x : Typ) → typ_code x < 256 ^ 1
 typ_small t.Unit = omega arith
 typ_small t.Int = omega arith
 typ_small t.Bool = omega arith
 
-typ_fronts : HasFronts (Always {X = Typ}) typ_form
+pub typ_fronts : HasFronts (Always {X = Typ}) typ_form
 typ_fronts = named_fronts typ_code typ_small typ_same
 
 fault_same : (x y : TextFault) → fault_code x ≡ fault_code y → x ≡ y
@@ -60,11 +60,14 @@ fault_same f.Twice f.Nesting e = absurd (cc)
 fault_same f.Twice f.Syntax e = absurd (cc)
 fault_same f.Twice f.Twice e = refl
 
-fault_small : (x : TextFault) → fault_code x < 256 ^ 1
+pub fault_small : (x : TextFault) → fault_code x < 256 ^ 1
 fault_small f.Byte = omega arith
 fault_small f.Nesting = omega arith
 fault_small f.Syntax = omega arith
 fault_small f.Twice = omega arith
+
+pub code_fronts : HasFronts (Always {X = TextFault}) fault_code_form
+code_fronts = named_fronts fault_code fault_small fault_same
 
 -- a struct has the form of nested pairs of its fields
 
@@ -80,7 +83,7 @@ place_fronts = made_fronts
     (pair_fronts text_fronts text_fronts)
     (λ x fits. (fits.module, fits.name)) (λ x. refl) (λ x. refl)
 
-index_item_fronts : HasFronts FitsIndexItem index_item_form
+pub index_item_fronts : HasFronts FitsIndexItem index_item_form
 index_item_fronts = made_fronts
     (λ (p : List ℕ × (List ℕ × (ℕ × Bool))). record { «module» = p.0; name = p.1.0; kind = p.1.1.0; public = p.1.1.1 }) (λ (x : IndexItem). (x.module, (x.name, (x.kind, x.public))))
     (pair_fronts text_fronts (pair_fronts text_fronts (pair_fronts (number_fronts 1) flag_fronts)))
@@ -95,7 +98,7 @@ index_fronts = made_fronts
 pub whole_fault_fronts : HasFronts FitsFault fault_form
 whole_fault_fronts = made_fronts
     (λ (p : ℕ × (ℕ × (TextFault × List ℕ))). record { at = record { line = p.0; column = p.1.0 }; code = p.1.1.0; name = p.1.1.1 }) (λ (x : IndexFault). (x.at.line, (x.at.column, (x.code, x.name))))
-    (marked_fronts (number_form 1 0) (pair_fronts (number_fronts 4) (pair_fronts (number_fronts 4) (pair_fronts (named_fronts fault_code fault_small fault_same) text_fronts))))
+    (marked_fronts (number_form 1 0) (pair_fronts (number_fronts 4) (pair_fronts (number_fronts 4) (pair_fronts code_fronts text_fronts))))
     (λ x fits. (fits.line, (fits.column, (tt, fits.name)))) (λ x. refl) (λ x. refl)
 
 pub sig_fronts : HasFronts FitsSig sig_form

@@ -32,10 +32,10 @@ jump_apart c is = record { push = λ e. grind arith; load = λ e. grind arith; s
 plain_jump : (c d : ℕ) → IsPlainCode c → IsJumpCode d → c ≢ d
 plain_jump c d p j = λ e. grind arith
 
-plain_small : (c : ℕ) → IsPlainCode c → c < 256 ^ 1
+pub plain_small : (c : ℕ) → IsPlainCode c → c < 256 ^ 1
 plain_small c is = grind arith
 
-jump_small : (c : ℕ) → IsJumpCode c → c < 256 ^ 1
+pub jump_small : (c : ℕ) → IsJumpCode c → c < 256 ^ 1
 jump_small c is = grind arith
 
 code_small : (x : Instr) → FitsInstr x → code_of x < 256 ^ 1
@@ -121,7 +121,7 @@ instr_seen x y r s fx fy same =
     let codes = same_number_front 1 (code_of x) (code_of y) (operand_form x ++ r) (operand_form y ++ s) (code_small x fx) (code_small y fy) whole in
     operand_seen x y r s fx fy codes.0 codes.1
 
-instr_fronts : HasFronts FitsInstr instr_form
+pub instr_fronts : HasFronts FitsInstr instr_form
 instr_fronts = record { seen = instr_seen }
 
 pub ir_fronts : HasFronts FitsIr ir_form

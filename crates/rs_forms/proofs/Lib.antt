@@ -1,2 +1,4 @@
 pub mod Fronts
 pub mod Instrs
+pub mod Sought
+pub mod Readers

@@ -4,6 +4,7 @@ ghost use Rattle.std.specs.Prelude.{◌≡◌, ◌≢◌, List, Option, Some};
 ghost use Rattle.inc_wire.specs.Fits.{FitsList};
 ghost use Rattle.inc_wire.specs.Forms.{list_form};
 ghost use Rattle.inc_wire.specs.Readings.{IsReadAs};
+ghost use Rattle.rs_forms.specs.Answered.{FormsAreAnswered, FormsHaveOneAnswer};
 ghost use Rattle.rs_forms.specs.Fits.{FitsFault, FitsIndex, FitsIr, FitsSig, FitsToken};
 ghost use Rattle.rs_forms.specs.Forms.{fault_form, index_form, ir_form, item_form, sig_form, token_form};
 ghost use Rattle.rs_tree.specs.declared.index.Index.{Index};
@@ -32,4 +33,11 @@ pub fn forms_are_read_back()
     ensures fault { (fault : IndexFault) (read : Option IndexFault) → FitsFault fault → IsReadAs FitsFault fault_form (fault_form fault) read → read ≡ Some fault }
     ensures sig { (sig : Sig) (read : Option Sig) → FitsSig sig → IsReadAs FitsSig sig_form (sig_form sig) read → read ≡ Some sig }
     ensures ir { (ir : Ir) (read : Option Ir) → FitsIr ir → IsReadAs FitsIr ir_form (ir_form ir) read → read ≡ Some ir }
+{}
+
+/// Any bytes are read in one way as an item's tokens, an index, a fault, a signature or an intermediate form, or as
+/// none: so what each reader answers is a function of the bytes.
+pub fn forms_are_answered()
+    ensures there { FormsAreAnswered }
+    ensures one { FormsHaveOneAnswer }
 {}

@@ -17,6 +17,6 @@ pub use fault::{FaultForm, fault_bytes, read_fault};
 pub use index::{IndexForm, IndexItemForm, index_bytes, read_index};
 pub use ir::{InstrForm, IrForm, ir_bytes, read_ir};
 pub use item::{TokenForm, item_bytes, read_item};
-pub use laws::{forms_are_read_back, forms_differ};
+pub use laws::{forms_are_answered, forms_are_read_back, forms_differ};
 pub use place::PlaceForm;
 pub use sig::{SigForm, TypForm, read_sig, sig_bytes};

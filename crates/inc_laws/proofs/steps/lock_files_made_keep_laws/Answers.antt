@@ -1,0 +1,6 @@
+use Rattle.inc_fs.specs.declared.op.Op.TheVariants.{MakeLock}
+use Rattle.inc_laws.proofs.Lasting.{did_keeps}
+use Rattle.inc_laws.proofs.steps.lock_files_made_keep_laws.Goals as goal
+
+pub returns : goal.returns
+returns c = λ krate entry. λ files events F G who reply l may step. did_keeps files events F G who (MakeLock krate entry) reply l may step

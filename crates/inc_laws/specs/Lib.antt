@@ -1,0 +1,5 @@
+pub mod Readings
+pub mod Parts
+pub mod Laws
+pub mod Invariants
+pub mod Steps

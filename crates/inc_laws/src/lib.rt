@@ -1,0 +1,22 @@
+//! What every legal history of a directory keeps.
+//!
+//! `inc_fs`, `inc_names`, `inc_wire` and `inc_proto` stand below. The ten invariants are said in
+//! `specs/Invariants.antt`, which a reader should open first, over the readings of `specs/Readings.antt`;
+//! `specs/Laws.antt` has what each event keeps. Each law is the contract of a call that does nothing.
+#![tactic(auto)]
+
+mod events;
+mod invariants;
+mod steps;
+
+pub use events::{
+    beginnings_keep_laws, leavings_keep_laws, legal_histories_keep_laws, the_start_keeps_laws,
+};
+pub use invariants::the_invariants_hold;
+pub use steps::{
+    appends_keep_laws, closes_keep_laws, directories_made_keep_laws, directories_removed_keep_laws,
+    draws_keep_laws, files_created_keep_laws, files_unlinked_keep_laws, links_keep_laws,
+    listings_keep_laws, lock_files_made_keep_laws, lock_files_opened_keep_laws,
+    lock_files_removed_keep_laws, locks_tried_keep_laws, looks_keep_laws, reads_keep_laws,
+    renames_keep_laws,
+};

@@ -233,7 +233,7 @@ began_as files h h1 room room1 F ss ss1 running number job number_is small h_is 
 pub did_as : (files : Files) (h h1 : List Event) (room room1 : ℕ) (F G : State) (ss : List Enrolled) (running who : ℕ) (op copy : Op) (reply seen told : Reply)
     (one : Enrolled) (view0 view1 : Seen)
     → one ≡ get_or ss who one → view0 ≡ record { number = one.view.number; job = one.view.job; steps = (Draw, Fault) ∷ one.view.steps }
-    → ((step : Op × Reply) (steps : Steps) → view0.steps ≡ step ∷ steps → view1 ≡ record { number = view0.number; job = view0.job; steps = (copy, seen) ∷ steps })
+    → ((steps : Steps) → view0.steps ≡ (Draw, Fault) ∷ steps → view1 ≡ record { number = view0.number; job = view0.job; steps = (copy, seen) ∷ steps })
     → copy ≡ op → seen ≡ reply → told ≡ reply
     → h1 ≡ h ++ Did who op told ∷ [] → room1 ≡ (room + 1) - 1
     → IsKept files (reverse h) room F ss running → MayDo files (reverse h) who op → Step F who op reply G
@@ -243,7 +243,7 @@ did_as files h h1 room room1 F G ss running who op copy reply seen told one view
     let its : one ≡ e.one = at ∙ enrolled_at e one in
     let back : (room + 1) - 1 ≡ room = omega arith in
     let full : view1 ≡ record { number = one.view.number; job = one.view.job; steps = (op, reply) ∷ one.view.steps } =
-    filled (Draw, Fault) one.view.steps (ap (λ v. v.steps) placed)
+    filled one.view.steps (ap (λ v. v.steps) placed)
     ∙ ap (λ v. with_steps v.number v.job ((copy, seen) ∷ one.view.steps)) placed
     ∙ ap (λ s. with_steps one.view.number one.view.job (s ∷ one.view.steps)) (ap (λ o. pair o seen) copy_is ∙ ap (λ r. pair op r) seen_is) in
     rw (h_is, room_is, told_is, last_is_first h (Did who op reply), back, full, its)

@@ -1,2 +1,4 @@
 pub mod Turned
 pub mod Kept
+pub mod Anys
+pub mod Brought

@@ -10,7 +10,7 @@ use Rattle.inc_fs.specs.declared.op.Reply.{Reply}
 use Rattle.inc_proto.specs.declared.event.Event.{Event}
 use Rattle.inc_proto.specs.declared.event.Event.TheVariants.{Begin, Did, Left}
 use Rattle.inc_proto.specs.Events.{own_steps, did, latest, Steps}
-use Rattle.inc_proto.specs.Growth.{IsOfOther, IsOfOthers, IsNumbered, Grows, GrowsBy, TellsOn, TellsBy, AddsOne}
+use Rattle.inc_proto.specs.Growth.{IsOfOther, IsOfOthers, IsNumbered, Grows, GrowsBy, TellsOn, TellsBy}
 
 other : {A : Type 0} (number who : ℕ) (x y : A) → number ≢ who → cond (number == who) x y ≡ y
 other number who x y apart = ap (λ b. cond b x y) (ne_eqb number who apart)

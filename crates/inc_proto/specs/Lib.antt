@@ -10,5 +10,6 @@ pub mod Permits
 pub mod Legal
 pub mod LegalLaws
 pub mod Finals
+pub mod OwnDirs
 pub mod Seen
 pub mod Grounds

@@ -10,10 +10,12 @@
 mod content;
 mod enrolled;
 mod event;
+mod forward;
 mod ground;
 mod laws;
 mod legal_laws;
 mod own;
+mod own_dir;
 mod view;
 
 pub use content::Content;

@@ -22,3 +22,9 @@ invariant_of-self-in-Ok-step g c =
     (ap (λ r. r.0) c.push_kept.ensures ∙ ap (λ r. r.0 ++ event ∷ []) c.in-Ok.ensures.room)
     (ap (λ r. r.1) c.push_kept.ensures ∙ ap (λ r. r.1 - 1) c.in-Ok.ensures.room)
     c.self.invariant may c.in-Ok-step.ensures.step.step
+
+pub give_up_place-requires : goal.give_up_place-requires
+give_up_place-requires g c = (c.index_mut-one.result.now.view.steps, ap (λ v. v.steps) c.in-Ok.ensures.place)
+
+pub fill_place-requires : goal.fill_place-requires
+fill_place-requires g c = (c.index_mut-one.result.now.view.steps, ap (λ v. v.steps) c.in-Ok.ensures.place)

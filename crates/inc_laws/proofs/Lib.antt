@@ -48,3 +48,5 @@ pub mod Wraps
 pub mod Allowed
 pub mod Lasting
 pub mod FromLaws
+pub mod Calm
+pub mod Stays

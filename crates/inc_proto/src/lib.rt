@@ -16,6 +16,7 @@ mod laws;
 mod legal_laws;
 mod own;
 mod own_dir;
+mod published;
 mod view;
 
 pub use content::Content;

@@ -3,3 +3,6 @@ pub mod Kept
 pub mod Anys
 pub mod Brought
 pub mod Complete
+pub mod Helds
+pub mod Given
+pub mod Cleared

@@ -11,5 +11,7 @@ pub mod Legal
 pub mod LegalLaws
 pub mod Finals
 pub mod OwnDirs
+pub mod Clears
+pub mod Sought
 pub mod Seen
 pub mod Grounds

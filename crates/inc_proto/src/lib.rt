@@ -7,16 +7,21 @@
 //! says of a session, then `specs/Permits.antt`, for what a session may do, and `specs/Legal.antt`.
 #![tactic(auto)]
 
+mod clear;
 mod content;
 mod enrolled;
+mod entries;
 mod event;
 mod forward;
 mod ground;
+mod holds;
 mod laws;
 mod legal_laws;
 mod own;
 mod own_dir;
 mod published;
+mod sought;
+mod standing;
 mod view;
 
 pub use content::Content;

@@ -56,7 +56,7 @@ use Rattle.inc_laws.proofs.Starts.{start_laws}
 
 -- ---- Steps.
 
-module _ (files : Files) (H : List Event) (F : State) (l : Laws files H F) (who : ℕ) (job : Job) (runs : running who H ≡ Some job) where
+module _ (files : Files) (H : List Event) (F : State) (l : Laws files H F) where
   owners : Owners (jobs_of H) (names_of H) (sites_of H) F.drawn
   owners = record { own = l.own_names; once = l.names_once }
 
@@ -69,6 +69,7 @@ module _ (files : Files) (H : List Event) (F : State) (l : Laws files H F) (who 
       go (Some (LockFile f)) is s = let t = l.lock_files.tried krate (final_text n hash) f (l.lock_files.entry krate (final_text n hash) f (ap lock_of is)) in absurd (lock_is_no_final t.1 n hash (sym t.3))
       go (Some (Folder names)) is s = whose_final owners krate n hash (l.dirs.whose krate (final_text n hash) names (ap folder_of is))
 
+module _ (files : Files) (H : List Event) (F : State) (l : Laws files H F) (who : ℕ) (job : Job) (runs : running who H ≡ Some job) where
   quiet_keeps : (op : Op) (reply : Reply) (G : State) → IsQuiet op reply → Step F who op reply G → ((krate : Text) (n : SessionName) (hash : ℕ) → ¬ IsLook krate (final_text n hash) (op, reply)) → Laws files (Did who op reply ∷ H) G
   quiet_keeps op reply G q s saw = subst (Laws files (Did who op reply ∷ H)) (sym (quiet_same F who op reply G q s))
       (idle_keeps files H F who op reply job l runs (quiet_idle op reply (dirs_of H who) q) (λ k n hash is. absurd (saw k n hash is)))
@@ -77,7 +78,7 @@ module _ (files : Files) (H : List Event) (F : State) (l : Laws files H F) (who 
   look_keeps krate names G s = subst (Laws files (Did who (Look krate) (Names names) ∷ H)) (sym s.1)
       (idle_keeps files H F who (Look krate) (Names names) job l runs (quiet_idle (Look krate) (Names names) (dirs_of H who) tt)
       (λ k n hash saw.
-      let v = stands_published krate n hash (listed_stands krate (final_text n hash) F.entries (subst (λ names. IsIn names (final_text n hash)) s.0 saw.1)) in
+      let v = stands_published files H F l krate n hash (listed_stands krate (final_text n hash) F.entries (subst (λ names. IsIn names (final_text n hash)) s.0 saw.1)) in
       (v.0, v.1 ∙ (λ i. Out (saw.0 i) (final_text n hash)))))
 
   pub step_keeps : (op : Op) (reply : Reply) (G : State) → IsPermitted files job (own_steps who H) op → Step F who op reply G → Laws files (Did who op reply ∷ H) G

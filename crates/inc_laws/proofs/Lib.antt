@@ -50,3 +50,6 @@ pub mod Lasting
 pub mod FromLaws
 pub mod Calm
 pub mod Stays
+pub mod Pairs
+pub mod Newest
+pub mod Replies

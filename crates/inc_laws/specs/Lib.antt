@@ -3,3 +3,4 @@ pub mod Parts
 pub mod Laws
 pub mod Invariants
 pub mod Steps
+pub mod Drawn

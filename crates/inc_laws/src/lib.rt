@@ -6,13 +6,17 @@
 #![tactic(auto)]
 
 mod events;
+mod expects;
 mod invariants;
+mod published;
 mod steps;
 
 pub use events::{
     beginnings_keep_laws, leavings_keep_laws, legal_histories_keep_laws, the_start_keeps_laws,
 };
+pub use expects::{listings_have_one_final, own_files_are_found};
 pub use invariants::{events_leave_alone, the_invariants_hold};
+pub use published::{drawn_pairs_differ, newest_entries_stand, published_entries_are_sessions};
 pub use steps::{
     appends_keep_laws, closes_keep_laws, directories_made_keep_laws, directories_removed_keep_laws,
     draws_keep_laws, files_created_keep_laws, files_unlinked_keep_laws, links_keep_laws,

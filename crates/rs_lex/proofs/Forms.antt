@@ -13,6 +13,7 @@ use Rattle.rs_tree.proofs.Both.{left_of, right_of}
 use Rattle.rs_tree.specs.Words.{begins, is_identifier, is_letter, is_number, is_number_byte, is_word_byte, value_of}
 use Rattle.rs_tree.specs.Kinds.{kind_in, kind_of, signs}
 use Rattle.rs_lex.specs.Pieces.{is_blank, is_form, is_mark, is_run, refused}
+use Rattle.rs_lex.specs.Ranges.{is_byte}
 use Rattle.rs_lex.specs.Scan.{form_length, longest_front}
 use Rattle.rs_lex.proofs.Fronts.{IsFrontFound, longest_front-found, longest_front-ge, prefix_len-ge, prefix_passes, take_front, front_within}
 
@@ -116,32 +117,74 @@ blank_is_no_token b bs is = elim (or_cases (b == 9 || b == 10 || b == 13) (b == 
 
 -- marks are short
 
-are_short : List (List ℕ) → Bool
-are_short rows = list_all (λ row. nat_le (length row) 4) rows
+row_step : (test : List ℕ → Bool) (text row : List ℕ) (rows : List (List ℕ)) (same : Bool) → pointwise nat_eq text row ≡ same → test row ≡ true → (list_any (pointwise nat_eq text) rows ≡ true → test text ≡ true) →
+    (same || list_any (pointwise nat_eq text) rows) ≡ true → test text ≡ true
+row_step test text row rows true is passes more any = ap test (same_text text row (sym is)) ∙ passes
+row_step test text row rows false is passes more any = more any
 
-short_step : (text row : List ℕ) (rows : List (List ℕ)) (same : Bool) → pointwise nat_eq text row ≡ same → nat_le (length row) 4 ≡ true → (list_any (pointwise nat_eq text) rows ≡ true → length text ≤ 4) →
-    (same || list_any (pointwise nat_eq text) rows) ≡ true → length text ≤ 4
-short_step text row rows true is short more any = let e : length text ≡ length row = ap length (same_text text row (sym is)) in grind (arith, nat_tests)
-short_step text row rows false is short more any = more any
+-- what all rows of a table pass
+row_passes : (test : List ℕ → Bool) (text : List ℕ) (rows : List (List ℕ)) → list_all test rows ≡ true → list_any (pointwise nat_eq text) rows ≡ true → test text ≡ true
+row_passes test text [] all any = cc
+row_passes test text (row ∷ rows) all any =
+    row_step test text row rows _ refl (left_of (test row) (list_all test rows) all) (row_passes test text rows (right_of (test row) (list_all test rows) all)) any
 
-short_of : (text : List ℕ) (rows : List (List ℕ)) → are_short rows ≡ true → list_any (pointwise nat_eq text) rows ≡ true → length text ≤ 4
-unfolding are_short
-short_of text [] short any = cc
-short_of text (row ∷ rows) short any =
-    short_step text row rows _ refl (left_of (nat_le (length row) 4) (are_short rows) short) (short_of text rows (right_of (nat_le (length row) 4) (are_short rows) short)) any
+mark_passes : (test : List ℕ → Bool) (text : List ℕ) → list_all test (keys_of signs) ≡ true → list_all test refused ≡ true → is_mark text ≡ true → test text ≡ true
+mark_passes test text all others is = elim (or_cases (is_some (kind_in signs text)) (list_any (pointwise nat_eq text) refused) is) [
+  | inl h ↦ row_passes test text (keys_of signs) all (sym (is_some-lookup (pointwise nat_eq text) signs) ∙ h)
+  | inr h ↦ row_passes test text refused others h
+]
 
-signs_are_short : are_short (keys_of signs) ≡ true
-unfolding are_short signs
+is_short : List ℕ → Bool
+is_short text = nat_le (length text) 4
+
+signs_are_short : list_all is_short (keys_of signs) ≡ true
+unfolding is_short signs
 signs_are_short = refl
 
-refused_are_short : are_short refused ≡ true
-unfolding are_short refused
+refused_are_short : list_all is_short refused ≡ true
+unfolding is_short refused
 refused_are_short = refl
 
 mark_is_short : (text : List ℕ) → is_mark text ≡ true → length text ≤ 4
-mark_is_short text is = elim (or_cases (is_some (kind_in signs text)) (list_any (pointwise nat_eq text) refused) is) [
-  | inl h ↦ short_of text (keys_of signs) signs_are_short (sym (is_some-lookup (pointwise nat_eq text) signs) ∙ h)
-  | inr h ↦ short_of text refused refused_are_short h
+unfolding is_short
+mark_is_short text is = let short : nat_le (length text) 4 ≡ true = mark_passes is_short text signs_are_short refused_are_short is in grind (arith, nat_tests)
+
+-- a token's bytes are bytes
+
+signs_are_bytes : list_all (list_all is_byte) (keys_of signs) ≡ true
+unfolding signs
+signs_are_bytes = refl
+
+refused_are_bytes : list_all (list_all is_byte) refused ≡ true
+unfolding refused
+refused_are_bytes = refl
+
+up_to : (a b n : ℕ) → n < 256 → is_in_range a n b ≡ true → is_byte b ≡ true
+up_to a b n small is = let most : nat_le b n ≡ true = right_of (nat_le a b) (nat_le b n) is in grind (arith, nat_tests)
+
+word_is_byte : (b : ℕ) → is_word_byte b ≡ true → is_byte b ≡ true
+word_is_byte b is = elim (or_cases ((is_ascii_digit b || is_in_range 65 90 b) || is_in_range 97 122 b) (b == 95) is) [
+  | inr h ↦ grind (arith, nat_tests)
+  | inl h ↦ elim (or_cases (is_ascii_digit b || is_in_range 65 90 b) (is_in_range 97 122 b) h) [
+    | inr g ↦ up_to 97 b 122 (omega arith) g
+    | inl g ↦ elim (or_cases (is_ascii_digit b) (is_in_range 65 90 b) g) [
+      | inr f ↦ up_to 65 b 90 (omega arith) f
+      | inl f ↦ up_to 48 b 57 (omega arith) f
+    ]
+  ]
+]
+
+words_are_bytes : (text : List ℕ) → list_all is_word_byte text ≡ true → list_all is_byte text ≡ true
+words_are_bytes [] all = refl
+words_are_bytes (b ∷ bs) all =
+    let first = word_is_byte b (left_of (is_word_byte b) (list_all is_word_byte bs) all) in
+    let later = words_are_bytes bs (right_of (is_word_byte b) (list_all is_word_byte bs) all) in
+    rw first later
+
+pub token_bytes : (text : List ℕ) → is_some (kind_of text) ≡ true → list_all is_byte text ≡ true
+token_bytes text some = elim (or_cases (is_run text) (is_mark text) (token_is_form text some)) [
+  | inl run ↦ words_are_bytes text (right_of (begins is_word_byte text) (list_all is_word_byte text) run)
+  | inr mark ↦ mark_passes (list_all is_byte) text signs_are_bytes refused_are_bytes mark
 ]
 
 -- the longest form

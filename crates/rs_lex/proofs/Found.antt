@@ -8,14 +8,13 @@ use Rattle.std.proofs.Math.Seq.{take-append-add}
 use Rattle.std.proofs.lemmas.List.Folds.{length-prefix_len}
 use Rattle.std.proofs.lemmas.List.Sums.{prefix_len-le-length}
 use Rattle.rs_tree.proofs.Both.{left_of, right_of}
-use Rattle.rs_tree.specs.Words.{begins}
 use Rattle.rs_tree.specs.Kinds.{kind_of}
 use Rattle.rs_lex.specs.Pieces.{IsComment, IsToken, Piece, Blank, Comment, Token, Stands, is_blank, is_comment_byte, is_doc, is_form, spelling}
 use Rattle.rs_lex.specs.Scan.{form_length, is_comment, piece_at, token_at, word_at}
 use Rattle.rs_lex.proofs.Fronts.{take_front, prefix_exact, prefix_passes, prefix_stops}
 use Rattle.rs_lex.proofs.Forms.{form_found, form_length-ge, token_is_form, nothing_is_no_token, slashes_are_a_form, slashes_are_no_token, blank_is_no_token}
 
-nothing_left : (more : List ℕ) → length more ≡ 0 → more ≡ []
+pub nothing_left : (more : List ℕ) → length more ≡ 0 → more ≡ []
 nothing_left [] e = refl
 nothing_left (b ∷ bs) e = absurd (omega arith)
 
@@ -61,9 +60,6 @@ token_length text after rest is token =
         ap (take n) is ∙ ap (λ k. take k (text ++ after)) split ∙ take-append-add text after (n - length text)
 
 -- comments
-
-no_begin : (rest : List ℕ) (bs : List ℕ) → rest ≡ bs → begins is_comment_byte bs ≡ false → begins is_comment_byte rest ≡ false
-no_begin rest bs is stops = ap (begins is_comment_byte) is ∙ stops
 
 pub run_is_comment : (rest : List ℕ) → is_comment (take_while is_comment_byte rest) ≡ true → IsComment (take_while is_comment_byte rest) (drop (prefix_len is_comment_byte rest) rest)
 run_is_comment rest is = record {

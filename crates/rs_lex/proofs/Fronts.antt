@@ -1,7 +1,7 @@
 -- Fronts of a text.
 use Rattle.std.proofs.Common.{◌≡◌, ℕ, zero, suc, ◌-◌, ◌<◌, ◌≤◌, ◌&&◌, Bool, true, false, cond, List, [], ◌∷◌, ◌++◌, length, take, drop, refl, sym, ap, ◌∙◌, nat_le, ◌⊎◌, inl, inr, arith, length-append, one-add, sub-one}
 use Rattle.std.specs.List.{prefix_len, list_all}
-use Rattle.std.proofs.Math.Seq.{take-append_seam, drop-append_seam}
+use Rattle.std.proofs.Math.Seq.{take-append_seam}
 use Rattle.std.proofs.lemmas.Bool.Decides.{nat_tests}
 use Rattle.rs_tree.proofs.Both.{left_of, right_of}
 use Rattle.rs_tree.specs.Words.{begins}
@@ -10,9 +10,6 @@ use Rattle.rs_lex.specs.Scan.{longest_front}
 -- a front is what its length takes
 pub take_front : (text front after : List ℕ) → text ≡ front ++ after → take (length front) text ≡ front
 take_front text front after is = ap (take (length front)) is ∙ take-append_seam front after
-
-pub drop_front : (text front after : List ℕ) → text ≡ front ++ after → drop (length front) text ≡ after
-drop_front text front after is = ap (drop (length front)) is ∙ drop-append_seam front after
 
 pub front_within : (text front after : List ℕ) → text ≡ front ++ after → length front ≤ length text
 front_within text front after is = omega (arith, ap length is, length-append front after)

@@ -7,9 +7,6 @@ use Rattle.std.proofs.lemmas.List.Sums.{sum_by-append}
 use Rattle.rs_tree.specs.declared.place.At.{At}
 use Rattle.rs_lex.specs.Places.{is_line_feed, place_after, place_of}
 
-in_line : ℕ → Bool
-in_line b = not (is_line_feed b)
-
 after_byte : At → ℕ → At
 after_byte at b = cond (is_line_feed b) (record { line = at.line + 1; column = 1 }) (record { line = at.line; column = at.column + 1 })
 

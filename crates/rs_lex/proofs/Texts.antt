@@ -159,9 +159,6 @@ same_pieces (q ∷ left) (r ∷ right) rest others same sl sr nl nr =
     let more = same_pieces left right rest others (after_spelling q (joined left ++ rest) (joined right ++ others) later) sl.1 sr.1 nl nr in
     record { pieces = ap (λ pieces. q ∷ pieces) more.pieces ∙ ap (λ piece. piece ∷ right) (sym e); rests = more.rests }
 
-nothing_at_end : piece_at [] ≡ None
-nothing_at_end = refl
-
 tokens_are : (text : List ℕ) (tokens others : List Token) → IsTokens text tokens → IsTokens text others → others ≡ tokens
 tokens_are text tokens others one two =
     let same = same_pieces one.pieces two.pieces [] [] (append-nil (joined one.pieces) ∙ sym one.joins ∙ two.joins ∙ sym (append-nil (joined two.pieces))) one.stand two.stand refl refl in
@@ -213,10 +210,6 @@ read_stuck text rest tokens at read some is = fault_whole text at (record {
 pub kept : {T E : Type 0} (r : Result T E) (P : Type 0) → is_err r ≡ false → OnOk r P → P
 kept (Ok x) P fine holds = holds
 kept (Err e) P fine holds = absurd (cc)
-
-pub left_none : (rest : List ℕ) → length rest ≡ 0 → rest ≡ []
-left_none [] none = refl
-left_none (b ∷ bs) none = absurd (omega arith)
 
 pub left_some : (rest : List ℕ) → length rest ≢ 0 → rest ≢ []
 left_some rest some none = some (ap length none)

@@ -9,7 +9,7 @@ use Rattle.rs_lex.specs.Scan.{piece_at}
 use Rattle.rs_lex.specs.Steps.{measured}
 use Rattle.rs_lex.specs.Tokens.{HasTokens, HasFault}
 use Rattle.rs_lex.specs.Answered.{TextsAreAnswered, OneAnswer}
-use Rattle.rs_lex.proofs.Texts.{IsRead, nothing_read, step_of, read_whole, read_stuck, left_none}
+use Rattle.rs_lex.proofs.Texts.{IsRead, nothing_read, step_of, read_whole, read_stuck}
 
 module _ (text : List ℕ) where
   abbrev Answer : Type 0

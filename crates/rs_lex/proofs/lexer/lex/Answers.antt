@@ -1,7 +1,8 @@
 use Rattle.std.proofs.Common.{◌∙◌, sym, arith}
 use Rattle.std.proofs.lemmas.Bool.Decides.{nat_tests}
 use Rattle.rs_lex.proofs.Ranges.{read_ranges}
-use Rattle.rs_lex.proofs.Texts.{kept, left_none, left_some, step_read, read_near, read_stuck, read_whole}
+use Rattle.rs_lex.proofs.Found.{nothing_left}
+use Rattle.rs_lex.proofs.Texts.{kept, left_some, step_read, read_near, read_stuck, read_whole}
 use Rattle.rs_lex.proofs.lexer.lex.Goals as goal
 
 pub returns-in_default-clause-fault : goal.returns-in_default-clause-fault
@@ -29,7 +30,7 @@ loop-rest-preserved c =
 
 pub returns-clause-tokens : goal.returns-clause-tokens
 returns-clause-tokens c =
-    read_whole c.args.text.now c.loop-rest.rest.now c.loop-rest.tokens c.loop-rest.at c.loop-rest.invariant (left_none c.loop-rest.rest.now (grind (arith, nat_tests)))
+    read_whole c.args.text.now c.loop-rest.rest.now c.loop-rest.tokens c.loop-rest.at c.loop-rest.invariant (nothing_left c.loop-rest.rest.now (grind (arith, nat_tests)))
 
 pub returns-clause-ranges : goal.returns-clause-ranges
 returns-clause-ranges c = read_ranges c.args.text.now c.loop-rest.rest.now c.loop-rest.tokens c.loop-rest.at c.loop-rest.invariant (omega arith)

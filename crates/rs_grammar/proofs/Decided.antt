@@ -10,7 +10,7 @@ use Rattle.rs_grammar.specs.declared.named.Named.{Named}
 use Rattle.rs_grammar.specs.Lexeme.{Lexeme}
 use Rattle.rs_grammar.specs.Nesting.{depth, IsShallow, IsTooDeep}
 use Rattle.rs_grammar.specs.Twice.{IsTwice, IsFirstTwice}
-use Rattle.rs_grammar.specs.Correct.{crate_of, names_of, rest_place, HasTree, IsSyntaxFault, IsNameTwice, IsRefusal}
+use Rattle.rs_grammar.specs.Correct.{crate_of, names_of, rest_place, HasTree, IsSyntaxFault, IsNameTwice, IsSyntaxRefusal}
 use Rattle.rs_grammar.proofs.Lists.{cut_at}
 use Rattle.rs_grammar.proofs.Answer.{fits_no_fault, one_fault}
 
@@ -56,20 +56,22 @@ one_name {m} {n} x y = (meets IsTwice x.before x.rest y.before y.rest m n (sym x
 twice_same : {ts : List Token} {at to : At} {name other : List ℕ} → IsNameTwice ts at name → IsNameTwice ts to other → fault.Twice at name ≡ fault.Twice to other
 twice_same x y =
     let p : x.sections ≡ y.sections = y.only x.sections x.fit in
-    let n : x.named ≡ y.named = one_name x.first (subst (λ l. IsFirstTwice (names_of l) y.named) (sym p) y.first) in
-    (λ i. fault.Twice ((x.place ∙ ap (λ (d : Named). d.at) n ∙ sym y.place) i) ((x.text ∙ ap (λ (d : Named). d.name) n ∙ sym y.text) i))
+    let a = x.twice in
+    let b = y.twice in
+    let n : a.named ≡ b.named = one_name a.first (subst (λ l. IsFirstTwice (names_of l) b.named) (sym p) b.first) in
+    (λ i. fault.Twice ((a.place ∙ ap (λ (d : Named). d.at) n ∙ sym b.place) i) ((a.text ∙ ap (λ (d : Named). d.name) n ∙ sym b.text) i))
 
 pub one_tree : (ts : List Token) (a b : Crate) → HasTree ts a → HasTree ts b → a ≡ b
 one_tree ts a b x y = x.makes ∙ ap crate_of (y.only x.sections x.fit) ∙ sym y.makes
 
-pub tree_faultless : (ts : List Token) (end : At) (a : Crate) (f : SyntaxFault) → HasTree ts a → IsRefusal ts end f → f ≡ fault.Memory
+pub tree_faultless : (ts : List Token) (end : At) (a : Crate) (f : SyntaxFault) → HasTree ts a → IsSyntaxRefusal ts end f → f ≡ fault.Memory
 tree_faultless ts end a (fault.Nesting at) x y = absurd (not_shallow y x.shallow)
 tree_faultless ts end a (fault.Syntax at) x y = absurd (fits_no_fault x.fit y.before y.rest y.parts y.fault)
 tree_faultless ts end a (fault.Twice at name) x y =
-    absurd (x.once y.first.before y.named y.first.rest (ap names_of (sym (x.only y.sections y.fit)) ∙ y.first.parts) y.first.twice)
+    let d = y.twice in absurd (x.once d.first.before d.named d.first.rest (ap names_of (sym (x.only y.sections y.fit)) ∙ d.first.parts) d.first.twice)
 tree_faultless ts end a fault.Memory x y = refl
 
-pub one_refusal : (ts : List Token) (end : At) (a b : SyntaxFault) → IsRefusal ts end a → IsRefusal ts end b → (a ≡ b) ⊎ (a ≡ fault.Memory) ⊎ (b ≡ fault.Memory)
+pub one_refusal : (ts : List Token) (end : At) (a b : SyntaxFault) → IsSyntaxRefusal ts end a → IsSyntaxRefusal ts end b → (a ≡ b) ⊎ (a ≡ fault.Memory) ⊎ (b ≡ fault.Memory)
 one_refusal ts end fault.Memory b x y = inr (inl refl)
 one_refusal ts end (fault.Nesting at) fault.Memory x y = inr (inr refl)
 one_refusal ts end (fault.Nesting at) (fault.Nesting to) x y = inl (ap fault.Nesting (one_nesting x y))

@@ -3,7 +3,7 @@ use Rattle.std.proofs.Common.{◌≡◌, ◌≤◌, List, [], ◌∷◌, ◌++�
 use Rattle.std.proofs.lemmas.List.{map-append, append_cancel_right}
 use Rattle.rs_tree.specs.declared.place.At.{At}
 use Rattle.rs_grammar.specs.Lexeme.{Lexeme, seen, moved}
-use Rattle.rs_grammar.specs.Grammar.{Shape, Val, Grammar, Matches, IsFront, m-tok, m-empty, m-seq, m-left, m-right, m-none, m-some, m-stop, m-turn, m-tail_stop, m-tail_last, m-tail_turn, m-ahead, m-not_ahead, m-here, m-nt, f-none, f-tok, f-first, f-rest, f-left, f-right, f-some, f-turn, f-turns, f-tail_last, f-tail_turn, f-tail_turns, f-ahead, f-not_ahead, f-here, f-nt}
+use Rattle.rs_grammar.specs.Grammar.{Shape, Val, Version, Grammar, MatchesIn, IsFrontIn, Matches, IsFront, m-tok, m-empty, m-seq, m-left, m-right, m-none, m-some, m-stop, m-turn, m-tail_stop, m-tail_last, m-tail_turn, m-ahead, m-not_ahead, m-here, m-nt, f-none, f-tok, f-first, f-rest, f-left, f-right, f-some, f-turn, f-turns, f-tail_last, f-tail_turn, f-tail_turns, f-ahead, f-not_ahead, f-here, f-nt}
 use Rattle.rs_grammar.specs.Parses.{Parses, r-tok, r-other, r-end, r-empty, r-seq, r-second, r-first, r-left, r-right, r-no_left, r-no_right, r-none, r-some, r-held, r-stop, r-turn, r-later, r-no_turn, r-tail_stop, r-tail_last, r-tail_no_last, r-tail_turn, r-tail_later, r-tail_no_turn, r-ahead, r-no_ahead, r-other_way, r-no_other_way, r-here, r-no_here, r-here_end, r-nt, r-no_nt}
 
 joined : {A : Type 0} {u v : List A} (a b w : List A) → u ≡ a ++ v → v ≡ b ++ w → u ≡ (a ++ b) ++ w
@@ -69,7 +69,7 @@ reads_on {o} r = go o r
     go (Some x) r = let m = read_matches r in shorter m.0 _ m.1
 
 -- a whole form is a front of it
-pub whole : {s : Shape} {g : Grammar s} {a : List Lexeme} {x : Val s} → Matches s g a x → IsFront s g a
+pub whole : {v : Version} {s : Shape} {g : Grammar s} {a : List Lexeme} {x : Val s} → MatchesIn v s g a x → IsFrontIn v s g a
 whole (m-tok e) = f-tok e
 whole m-empty = f-none
 whole (m-seq m n) = f-rest m (whole n)

@@ -217,5 +217,6 @@ one_of P (b ∷ before) x rest h = one_of P before x rest h.1
 pub names_twice_stand : NamesTwiceStand
 names_twice_stand tokens at name twice =
     let all = items_of twice.sections in
-    let f = one_of (IsFound all) twice.first.before twice.named twice.first.rest (subst (Throughout (IsFound all)) twice.first.parts (found all twice.sections (text twice.fit) (λ p c. c))) in
-    elim f [ inl e ↦ inl e | inr i ↦ inr (record { placed = i.placed; listed = i.listed; text = i.text ∙ sym twice.text; place = i.place ∙ ap (relative i.placed.start) (sym twice.place) }) ]
+    let d = twice.twice in
+    let f = one_of (IsFound all) d.first.before d.named d.first.rest (subst (Throughout (IsFound all)) d.first.parts (found all twice.sections (text twice.fit) (λ p c. c))) in
+    elim f [ inl e ↦ inl e | inr i ↦ inr (record { placed = i.placed; listed = i.listed; text = i.text ∙ sym d.text; place = i.place ∙ ap (relative i.placed.start) (sym d.place) }) ]

@@ -12,7 +12,7 @@ use Rattle.rs_grammar.specs.Grammar.{Section, Rep, Nt, Text, Part}
 use Rattle.rs_grammar.specs.Parses.{Parses}
 use Rattle.rs_grammar.specs.Nesting.{depth, IsShallow, IsTooDeep}
 use Rattle.rs_grammar.specs.Twice.{key, AllOnce, IsFirstTwice}
-use Rattle.rs_grammar.specs.Correct.{crate_of, names_of, rest_place, HasTree, IsRefusal}
+use Rattle.rs_grammar.specs.Correct.{crate_of, names_of, rest_place, HasTree, IsSyntaxRefusal}
 use Rattle.rs_grammar.specs.There.{AnswersAreThere}
 use Rattle.rs_grammar.proofs.Names.{none_once, seen_by, once_more, twice_from_seen}
 use Rattle.rs_grammar.proofs.Depths.{shallow_more, nothing_shallow}
@@ -40,7 +40,7 @@ named before (d ∷ rest) once = go (λ e. named (before ++ d ∷ []) rest (once
 
 module _ (tokens : List Token) (end : At) (calm : IsShallow (lexemes tokens)) where
   abbrev Answer : Type 0
-  Answer = ((tree : Crate) × HasTree tokens tree) ⊎ ((fault : SyntaxFault) × IsRefusal tokens end fault × (fault ≡ f.Memory → ⊥))
+  Answer = ((tree : Crate) × HasTree tokens tree) ⊎ ((fault : SyntaxFault) × IsSyntaxRefusal tokens end fault × (fault ≡ f.Memory → ⊥))
 
   read_all : (o : Option (List Section)) (v : List Lexeme) → Parses _ (Rep (Nt Part)) (lexemes tokens) o v → Answer
   read_all None v r =
@@ -51,7 +51,7 @@ module _ (tokens : List Token) (end : At) (calm : IsShallow (lexemes tokens)) wh
       inr (f.Syntax (rest_place end (t ∷ v)), record { shallow = calm; before = z.0; rest = t ∷ v; parts = z.1; fault = z.2; place = refl }, λ e. cc)
   read_all (Some x) [] r = elim (named [] (names_of x) none_once) [
     | inl once ↦ inl (crate_of x, record { shallow = calm; sections = x; fit = sections_fit r; only = λ others m. sections_only r m; once = once; makes = refl })
-    | inr d ↦ inr (f.Twice d.0.at d.0.name, record { shallow = calm; sections = x; fit = sections_fit r; only = λ others m. sections_only r m; named = d.0; first = d.1; place = refl; text = refl }, λ e. cc)
+    | inr d ↦ inr (f.Twice d.0.at d.0.name, record { shallow = calm; sections = x; fit = sections_fit r; only = λ others m. sections_only r m; twice = record { named = d.0; first = d.1; place = refl; text = refl } }, λ e. cc)
   ]
 
 pub answers_are_there : AnswersAreThere

@@ -9,9 +9,9 @@ use Rattle.rs_grammar.specs.declared.fault.SyntaxFault.TheVariants as fault
 use Rattle.rs_grammar.specs.declared.named.Named.{Named}
 use Rattle.rs_grammar.specs.declared.sited.Sited.{Sited}
 use Rattle.rs_grammar.specs.Lexeme.{Lexeme, lexemes}
-use Rattle.rs_grammar.specs.Grammar.{Section, Module, Alone, Matches, IsFront, Nt, Text}
+use Rattle.rs_grammar.specs.Grammar.{Section, Module, Alone, Version, Factored, MatchesIn, IsFrontIn, Nt, Text}
 use Rattle.rs_grammar.specs.Nesting.{IsShallow, IsTooDeep}
-use Rattle.rs_grammar.specs.Twice.{AllOnce, IsFirstTwice}
+use Rattle.rs_grammar.specs.Twice.{AllOnce, IsTwiceAt}
 
 -- an item in the module of this name
 abbrev pub placed_in : List ℕ → Sited → Placed
@@ -20,15 +20,15 @@ placed_in name s = record s.placed { «module» = name }
 abbrev pub name_in : List ℕ → Sited → Named
 name_in name s = record { at = s.at; «module» = Some name; name = s.placed.item.name }
 
--- the sections fit the tokens
-abbrev pub FitsCrate : List Lexeme → List Section → Type 0
-FitsCrate tokens sections = Matches _ (Nt Text) tokens sections
+-- by one of the grammars the sections fit the tokens
+abbrev pub FitsCrateIn : Version → List Lexeme → List Section → Type 0
+FitsCrateIn v tokens sections = MatchesIn v _ (Nt Text) tokens sections
 
 -- The tokens before are a front of the grammar, and with the first of the rest they are not. At the end the
 -- list is a front, and nothing fits it.
-abbrev pub IsFault : List Lexeme → List Lexeme → Type 0
-IsFault before (t ∷ rest) = IsFront _ (Nt Text) before × (IsFront _ (Nt Text) (before ++ t ∷ []) → ⊥)
-IsFault before [] = IsFront _ (Nt Text) before × ((sections : List Section) → FitsCrate before sections → ⊥)
+abbrev pub IsFaultIn : Version → List Lexeme → List Lexeme → Type 0
+IsFaultIn v before (t ∷ rest) = IsFrontIn v _ (Nt Text) before × (IsFrontIn v _ (Nt Text) (before ++ t ∷ []) → ⊥)
+IsFaultIn v before [] = IsFrontIn v _ (Nt Text) before × ((sections : List Section) → FitsCrateIn v before sections → ⊥)
 
 -- the modules of a text, and its items, each in its module, in order of the text
 abbrev pub modules_of : List Section → List (List ℕ)
@@ -51,11 +51,11 @@ names_of (Module at name items ∷ more) = record { at = at; «module» = None; 
 names_of (Alone item ∷ more) = name_in [] item ∷ names_of more
 
 -- a crate whose tree fits the tokens, as no other does
-pub record HasTree (tokens : List Token) (tree : Crate) : Type 0 where
+pub record HasTreeIn (v : Version) (tokens : List Token) (tree : Crate) : Type 0 where
   pub shallow : IsShallow (lexemes tokens)
   pub sections : List Section
-  pub fit : FitsCrate (lexemes tokens) sections
-  pub only : (others : List Section) → FitsCrate (lexemes tokens) others → others ≡ sections
+  pub fit : FitsCrateIn v (lexemes tokens) sections
+  pub only : (others : List Section) → FitsCrateIn v (lexemes tokens) others → others ≡ sections
   pub once : AllOnce (names_of sections)
   pub makes : tree ≡ crate_of sections
 
@@ -65,28 +65,45 @@ rest_place end [] = end
 rest_place end (t ∷ rest) = t.at
 
 -- the place of the first token that can't stand where it does, or of the end
-pub record IsSyntaxFault (tokens : List Token) (end at : At) : Type 0 where
+pub record IsSyntaxFaultIn (v : Version) (tokens : List Token) (end at : At) : Type 0 where
   pub shallow : IsShallow (lexemes tokens)
   pub before : List Lexeme
   pub rest : List Lexeme
   pub parts : lexemes tokens ≡ before ++ rest
-  pub fault : IsFault before rest
+  pub fault : IsFaultIn v before rest
   pub place : at ≡ rest_place end rest
 
 -- the first name that an earlier one clashes with, in a text whose tokens fit
-pub record IsNameTwice (tokens : List Token) (at : At) (name : List ℕ) : Type 0 where
+pub record IsNameTwiceIn (v : Version) (tokens : List Token) (at : At) (name : List ℕ) : Type 0 where
   pub shallow : IsShallow (lexemes tokens)
   pub sections : List Section
-  pub fit : FitsCrate (lexemes tokens) sections
-  pub only : (others : List Section) → FitsCrate (lexemes tokens) others → others ≡ sections
-  pub named : Named
-  pub first : IsFirstTwice (names_of sections) named
-  pub place : at ≡ named.at
-  pub text : name ≡ named.name
+  pub fit : FitsCrateIn v (lexemes tokens) sections
+  pub only : (others : List Section) → FitsCrateIn v (lexemes tokens) others → others ≡ sections
+  pub twice : IsTwiceAt (names_of sections) at name
 
 -- The first fault of a text: nesting, then syntax, then a name defined twice. Want of memory says nothing.
-abbrev pub IsRefusal : List Token → At → SyntaxFault → Type 0
-IsRefusal tokens end (fault.Nesting at) = IsTooDeep (lexemes tokens) at
-IsRefusal tokens end (fault.Syntax at) = IsSyntaxFault tokens end at
-IsRefusal tokens end (fault.Twice at name) = IsNameTwice tokens at name
-IsRefusal tokens end fault.Memory = Unit {0}
+abbrev pub IsSyntaxRefusalIn : Version → List Token → At → SyntaxFault → Type 0
+IsSyntaxRefusalIn v tokens end (fault.Nesting at) = IsTooDeep (lexemes tokens) at
+IsSyntaxRefusalIn v tokens end (fault.Syntax at) = IsSyntaxFaultIn v tokens end at
+IsSyntaxRefusalIn v tokens end (fault.Twice at name) = IsNameTwiceIn v tokens at name
+IsSyntaxRefusalIn v tokens end fault.Memory = Unit {0}
+
+-- the same by the factored grammar
+
+abbrev pub FitsCrate : List Lexeme → List Section → Type 0
+FitsCrate tokens sections = FitsCrateIn Factored tokens sections
+
+abbrev pub IsFault : List Lexeme → List Lexeme → Type 0
+IsFault before rest = IsFaultIn Factored before rest
+
+abbrev pub HasTree : List Token → Crate → Type 0
+HasTree tokens tree = HasTreeIn Factored tokens tree
+
+abbrev pub IsSyntaxFault : List Token → At → At → Type 0
+IsSyntaxFault tokens end at = IsSyntaxFaultIn Factored tokens end at
+
+abbrev pub IsNameTwice : List Token → At → List ℕ → Type 0
+IsNameTwice tokens at name = IsNameTwiceIn Factored tokens at name
+
+abbrev pub IsSyntaxRefusal : List Token → At → SyntaxFault → Type 0
+IsSyntaxRefusal tokens end fault = IsSyntaxRefusalIn Factored tokens end fault

@@ -193,8 +193,8 @@ shape Args = both (tree Expression) (tree OtherArgs)
 shape OtherArgs = both (many (tree Expression)) (maybe nothing)
 shape Group = both lexeme (both (tree Expression) lexeme)
 
--- The grammar. Where it differs from the one that is written in docs/LANGUAGE.md, `Written.antt` has the
--- written form, and a law that both are the same.
+-- The grammar, factored for reading from the left. Where it differs from the one that docs/LANGUAGE.md writes,
+-- `written` below has the written rule; that both grammars say the same is a law (`specs/Written.antt`).
 abbrev pub rule : (n : Rule) → Grammar (shape n)
 rule Text = Rep (Nt Part)
 -- ["pub"] "mod" .. | item
@@ -380,42 +380,120 @@ made Args (first, more) = first ∷ more
 made OtherArgs (more, _) = more
 made Group (left, (e, _)) = expr left.at (form.Group e)
 
--- the tokens are of the form, and are read as the value
-pub data Matches : (s : Shape) → Grammar s → List Lexeme → Val s → Type 0 where
-  m-tok : {c : Kind} {t : Lexeme} → t.kind ≡ c → Matches _ (Tok c) (t ∷ []) t
-  m-empty : Matches _ Empty [] tt
-  m-seq : {s t : Shape} {g : Grammar s} {h : Grammar t} {a b : List Lexeme} {x : Val s} {y : Val t} → Matches _ g a x → Matches _ h b y → Matches _ (Seq g h) (a ++ b) (x, y)
-  m-left : {s t : Shape} {g : Grammar s} {h : Grammar t} {a : List Lexeme} {x : Val s} → Matches _ g a x → Matches _ (Alt g h) a (inl x)
-  m-right : {s t : Shape} {g : Grammar s} {h : Grammar t} {a : List Lexeme} {y : Val t} → Matches _ h a y → Matches _ (Alt g h) a (inr y)
-  m-none : {s : Shape} {g : Grammar s} → Matches _ (Opt g) [] None
-  m-some : {s : Shape} {g : Grammar s} {a : List Lexeme} {x : Val s} → Matches _ g a x → Matches _ (Opt g) a (Some x)
-  m-stop : {s : Shape} {g : Grammar s} → Matches _ (Rep g) [] []
-  m-turn : {s : Shape} {g : Grammar s} {a b : List Lexeme} {x : Val s} {xs : List (Val s)} → Matches _ g a x → Matches _ (Rep g) b xs → Matches _ (Rep g) (a ++ b) (x ∷ xs)
-  m-tail_stop : {s t : Shape} {c : Kind} {g : Grammar s} {h : Grammar t} → Matches _ (Tail c g h) [] ([], None)
-  m-tail_last : {s t : Shape} {c : Kind} {g : Grammar s} {h : Grammar t} {d : Lexeme} {a : List Lexeme} {y : Val t} → d.kind ≡ c → Matches _ h a y → Matches _ (Tail c g h) (d ∷ a) ([], Some y)
-  m-tail_turn : {s t : Shape} {c : Kind} {g : Grammar s} {h : Grammar t} {d : Lexeme} {a b : List Lexeme} {x : Val s} {xs : List (Val s)} {y : Option (Val t)}
-      → d.kind ≡ c → Matches _ g a x → Matches _ (Tail c g h) b (xs, y) → Matches _ (Tail c g h) (d ∷ (a ++ b)) (x ∷ xs, y)
-  m-ahead : {s t : Shape} {p : Pair} {g : Grammar s} {h : Grammar t} {a : List Lexeme} {x : Val (both lexeme (both lexeme s))} → Matches _ (Seq (Tok (one p)) (Seq (Tok (two p)) g)) a x → Matches _ (Ahead p g h) a (inl x)
-  m-not_ahead : {s t : Shape} {p : Pair} {g : Grammar s} {h : Grammar t} {a : List Lexeme} {y : Val t} → Matches _ h a y → Matches _ (Ahead p g h) a (inr y)
-  m-here : {s : Shape} {g : Grammar s} {t : Lexeme} {a : List Lexeme} {x : Val s} → Matches _ g (seen t.at (t ∷ a)) x → Matches _ (Here g) (t ∷ a) (t ∷ a, x)
-  m-nt : {n : Rule} {a : List Lexeme} {x : Val (shape n)} → Matches _ (rule n) a x → Matches _ (Nt n) a (made n x)
+-- The grammar as docs/LANGUAGE.md writes it, where a rule is another than the factored one. `Rest` is no rule of
+-- it: none leads there.
 
--- the tokens are a front of the form
-pub data IsFront : (s : Shape) → Grammar s → List Lexeme → Type 0 where
-  f-none : {s : Shape} {g : Grammar s} → IsFront _ g []
-  f-tok : {c : Kind} {t : Lexeme} → t.kind ≡ c → IsFront _ (Tok c) (t ∷ [])
-  f-first : {s t : Shape} {g : Grammar s} {h : Grammar t} {a : List Lexeme} → IsFront _ g a → IsFront _ (Seq g h) a
-  f-rest : {s t : Shape} {g : Grammar s} {h : Grammar t} {a b : List Lexeme} {x : Val s} → Matches _ g a x → IsFront _ h b → IsFront _ (Seq g h) (a ++ b)
-  f-left : {s t : Shape} {g : Grammar s} {h : Grammar t} {a : List Lexeme} → IsFront _ g a → IsFront _ (Alt g h) a
-  f-right : {s t : Shape} {g : Grammar s} {h : Grammar t} {a : List Lexeme} → IsFront _ h a → IsFront _ (Alt g h) a
-  f-some : {s : Shape} {g : Grammar s} {a : List Lexeme} → IsFront _ g a → IsFront _ (Opt g) a
-  f-turn : {s : Shape} {g : Grammar s} {a : List Lexeme} → IsFront _ g a → IsFront _ (Rep g) a
-  f-turns : {s : Shape} {g : Grammar s} {a b : List Lexeme} {x : Val s} → Matches _ g a x → IsFront _ (Rep g) b → IsFront _ (Rep g) (a ++ b)
-  f-tail_last : {s t : Shape} {c : Kind} {g : Grammar s} {h : Grammar t} {d : Lexeme} {a : List Lexeme} → d.kind ≡ c → IsFront _ h a → IsFront _ (Tail c g h) (d ∷ a)
-  f-tail_turn : {s t : Shape} {c : Kind} {g : Grammar s} {h : Grammar t} {d : Lexeme} {a : List Lexeme} → d.kind ≡ c → IsFront _ g a → IsFront _ (Tail c g h) (d ∷ a)
+abbrev pub second : {X Y : Type 0} → X × Y → Y
+second p = p.1
+
+abbrev pub held : {X Y : Type 0} → Option (X × Y) → Option Y
+held None = None
+held (Some p) = Some p.1
+
+abbrev pub written_shape : Rule → Shape
+written_shape Part = either (both (maybe lexeme) (both lexeme (tree Contents))) (tree Item)
+written_shape Definition = either (both (maybe lexeme) (both lexeme (tree Constant))) (tree Function)
+written_shape OtherParams = both (many (both lexeme (tree Param))) (maybe lexeme)
+written_shape Body = both (many (tree Statement)) (maybe (tree Expression))
+written_shape OtherArms = both (many (both lexeme (tree Arm))) (maybe (both lexeme (tree Block)))
+written_shape Route = either lexeme (either (both lexeme (both lexeme lexeme)) (either (both lexeme (both lexeme lexeme)) (both lexeme (both lexeme (both lexeme (both lexeme lexeme))))))
+written_shape OtherArgs = both (many (both lexeme (tree Expression))) (maybe lexeme)
+written_shape n = shape n
+
+abbrev pub written : (n : Rule) → Grammar (written_shape n)
+-- ["pub"] "mod" contents | item
+written Part = Alt (Opt (Tok k.Pub) · Tok k.Mod · Nt Contents) (Nt Item)
+-- ["pub"] "const" constant | function
+written Definition = Alt (Opt (Tok k.Pub) · Tok k.Const · Nt Constant) (Nt Function)
+-- { "," param } [","]
+written OtherParams = Rep (Tok k.Comma · Nt Param) · Opt (Tok k.Comma)
+-- { stmt } [ expr ]
+written Body = Rep (Nt Statement) · Opt (Nt Expression)
+-- .. | name "=" expr ";" | expr ";"
+written Statement = Alt (Nt Worded) (Alt (Tok k.Name · Tok k.Assign · Nt Expression · Tok k.Semicolon) (Nt Expression · Tok k.Semicolon))
+-- { "else" arm } [ "else" block ]
+written OtherArms = Rep (Tok k.Else · Nt Arm) · Opt (Tok k.Else · Nt Block)
+-- name | name "::" name | "crate" "::" name | "crate" "::" name "::" name
+written Route = Alt (Tok k.Name) (Alt (Tok k.Name · Tok k.DoubleColon · Tok k.Name) (Alt (Tok k.Crate · Tok k.DoubleColon · Tok k.Name) (Tok k.Crate · Tok k.DoubleColon · Tok k.Name · Tok k.DoubleColon · Tok k.Name)))
+-- { "," expr } [","]
+written OtherArgs = Rep (Tok k.Comma · Nt Expression) · Opt (Tok k.Comma)
+written n = rule n
+
+abbrev pub written_made : (n : Rule) → Val (written_shape n) → Tree n
+written_made Part (inl (_, (_, contents))) = contents
+written_made Part (inr item) = Alone item
+written_made Definition (inl (None, (_, i))) = i
+written_made Definition (inl (Some _, (_, i))) = public i
+written_made Definition (inr i) = i
+written_made OtherParams (turns, _) = map (second {X = Lexeme} {Y = param.Param}) turns
+written_made Body parts = parts
+written_made OtherArms (turns, last) = (map (second {X = Lexeme} {Y = Expr × List Stmt}) turns, held {X = Lexeme} {Y = List Stmt} last)
+written_made Route (inl name) = record { at = name.at; rooted = false; «module» = None; name = name.text }
+written_made Route (inr (inl (first, (_, name)))) = record { at = first.at; rooted = false; «module» = Some first.text; name = name.text }
+written_made Route (inr (inr (inl (root, (_, name))))) = record { at = root.at; rooted = true; «module» = None; name = name.text }
+written_made Route (inr (inr (inr (root, (_, (first, (_, name))))))) = record { at = root.at; rooted = true; «module» = Some first.text; name = name.text }
+written_made OtherArgs (turns, _) = map (second {X = Lexeme} {Y = Expr}) turns
+written_made n x = made n x
+
+-- the two grammars
+pub data Version : Type 0 where
+  AsWritten Factored : Version
+
+abbrev pub shape_in : Version → Rule → Shape
+shape_in AsWritten n = written_shape n
+shape_in Factored n = shape n
+
+abbrev pub rule_in : (v : Version) (n : Rule) → Grammar (shape_in v n)
+rule_in AsWritten n = written n
+rule_in Factored n = rule n
+
+abbrev pub made_in : (v : Version) (n : Rule) → Val (shape_in v n) → Tree n
+made_in AsWritten n x = written_made n x
+made_in Factored n x = made n x
+
+-- the tokens are of the form, by one of the grammars, and are read as the value
+pub data MatchesIn (v : Version) : (s : Shape) → Grammar s → List Lexeme → Val s → Type 0 where
+  m-tok : {c : Kind} {t : Lexeme} → t.kind ≡ c → MatchesIn v _ (Tok c) (t ∷ []) t
+  m-empty : MatchesIn v _ Empty [] tt
+  m-seq : {s t : Shape} {g : Grammar s} {h : Grammar t} {a b : List Lexeme} {x : Val s} {y : Val t} → MatchesIn v _ g a x → MatchesIn v _ h b y → MatchesIn v _ (Seq g h) (a ++ b) (x, y)
+  m-left : {s t : Shape} {g : Grammar s} {h : Grammar t} {a : List Lexeme} {x : Val s} → MatchesIn v _ g a x → MatchesIn v _ (Alt g h) a (inl x)
+  m-right : {s t : Shape} {g : Grammar s} {h : Grammar t} {a : List Lexeme} {y : Val t} → MatchesIn v _ h a y → MatchesIn v _ (Alt g h) a (inr y)
+  m-none : {s : Shape} {g : Grammar s} → MatchesIn v _ (Opt g) [] None
+  m-some : {s : Shape} {g : Grammar s} {a : List Lexeme} {x : Val s} → MatchesIn v _ g a x → MatchesIn v _ (Opt g) a (Some x)
+  m-stop : {s : Shape} {g : Grammar s} → MatchesIn v _ (Rep g) [] []
+  m-turn : {s : Shape} {g : Grammar s} {a b : List Lexeme} {x : Val s} {xs : List (Val s)} → MatchesIn v _ g a x → MatchesIn v _ (Rep g) b xs → MatchesIn v _ (Rep g) (a ++ b) (x ∷ xs)
+  m-tail_stop : {s t : Shape} {c : Kind} {g : Grammar s} {h : Grammar t} → MatchesIn v _ (Tail c g h) [] ([], None)
+  m-tail_last : {s t : Shape} {c : Kind} {g : Grammar s} {h : Grammar t} {d : Lexeme} {a : List Lexeme} {y : Val t} → d.kind ≡ c → MatchesIn v _ h a y → MatchesIn v _ (Tail c g h) (d ∷ a) ([], Some y)
+  m-tail_turn : {s t : Shape} {c : Kind} {g : Grammar s} {h : Grammar t} {d : Lexeme} {a b : List Lexeme} {x : Val s} {xs : List (Val s)} {y : Option (Val t)}
+      → d.kind ≡ c → MatchesIn v _ g a x → MatchesIn v _ (Tail c g h) b (xs, y) → MatchesIn v _ (Tail c g h) (d ∷ (a ++ b)) (x ∷ xs, y)
+  m-ahead : {s t : Shape} {p : Pair} {g : Grammar s} {h : Grammar t} {a : List Lexeme} {x : Val (both lexeme (both lexeme s))} → MatchesIn v _ (Seq (Tok (one p)) (Seq (Tok (two p)) g)) a x → MatchesIn v _ (Ahead p g h) a (inl x)
+  m-not_ahead : {s t : Shape} {p : Pair} {g : Grammar s} {h : Grammar t} {a : List Lexeme} {y : Val t} → MatchesIn v _ h a y → MatchesIn v _ (Ahead p g h) a (inr y)
+  m-here : {s : Shape} {g : Grammar s} {t : Lexeme} {a : List Lexeme} {x : Val s} → MatchesIn v _ g (seen t.at (t ∷ a)) x → MatchesIn v _ (Here g) (t ∷ a) (t ∷ a, x)
+  m-nt : {n : Rule} {a : List Lexeme} {x : Val (shape_in v n)} → MatchesIn v _ (rule_in v n) a x → MatchesIn v _ (Nt n) a (made_in v n x)
+
+-- the tokens are a front of the form, by one of the grammars
+pub data IsFrontIn (v : Version) : (s : Shape) → Grammar s → List Lexeme → Type 0 where
+  f-none : {s : Shape} {g : Grammar s} → IsFrontIn v _ g []
+  f-tok : {c : Kind} {t : Lexeme} → t.kind ≡ c → IsFrontIn v _ (Tok c) (t ∷ [])
+  f-first : {s t : Shape} {g : Grammar s} {h : Grammar t} {a : List Lexeme} → IsFrontIn v _ g a → IsFrontIn v _ (Seq g h) a
+  f-rest : {s t : Shape} {g : Grammar s} {h : Grammar t} {a b : List Lexeme} {x : Val s} → MatchesIn v _ g a x → IsFrontIn v _ h b → IsFrontIn v _ (Seq g h) (a ++ b)
+  f-left : {s t : Shape} {g : Grammar s} {h : Grammar t} {a : List Lexeme} → IsFrontIn v _ g a → IsFrontIn v _ (Alt g h) a
+  f-right : {s t : Shape} {g : Grammar s} {h : Grammar t} {a : List Lexeme} → IsFrontIn v _ h a → IsFrontIn v _ (Alt g h) a
+  f-some : {s : Shape} {g : Grammar s} {a : List Lexeme} → IsFrontIn v _ g a → IsFrontIn v _ (Opt g) a
+  f-turn : {s : Shape} {g : Grammar s} {a : List Lexeme} → IsFrontIn v _ g a → IsFrontIn v _ (Rep g) a
+  f-turns : {s : Shape} {g : Grammar s} {a b : List Lexeme} {x : Val s} → MatchesIn v _ g a x → IsFrontIn v _ (Rep g) b → IsFrontIn v _ (Rep g) (a ++ b)
+  f-tail_last : {s t : Shape} {c : Kind} {g : Grammar s} {h : Grammar t} {d : Lexeme} {a : List Lexeme} → d.kind ≡ c → IsFrontIn v _ h a → IsFrontIn v _ (Tail c g h) (d ∷ a)
+  f-tail_turn : {s t : Shape} {c : Kind} {g : Grammar s} {h : Grammar t} {d : Lexeme} {a : List Lexeme} → d.kind ≡ c → IsFrontIn v _ g a → IsFrontIn v _ (Tail c g h) (d ∷ a)
   f-tail_turns : {s t : Shape} {c : Kind} {g : Grammar s} {h : Grammar t} {d : Lexeme} {a b : List Lexeme} {x : Val s}
-      → d.kind ≡ c → Matches _ g a x → IsFront _ (Tail c g h) b → IsFront _ (Tail c g h) (d ∷ (a ++ b))
-  f-ahead : {s t : Shape} {p : Pair} {g : Grammar s} {h : Grammar t} {a : List Lexeme} → IsFront _ (Seq (Tok (one p)) (Seq (Tok (two p)) g)) a → IsFront _ (Ahead p g h) a
-  f-not_ahead : {s t : Shape} {p : Pair} {g : Grammar s} {h : Grammar t} {a : List Lexeme} → IsFront _ h a → IsFront _ (Ahead p g h) a
-  f-here : {s : Shape} {g : Grammar s} {t : Lexeme} {a : List Lexeme} → IsFront _ g (seen t.at (t ∷ a)) → IsFront _ (Here g) (t ∷ a)
-  f-nt : {n : Rule} {a : List Lexeme} → IsFront _ (rule n) a → IsFront _ (Nt n) a
+      → d.kind ≡ c → MatchesIn v _ g a x → IsFrontIn v _ (Tail c g h) b → IsFrontIn v _ (Tail c g h) (d ∷ (a ++ b))
+  f-ahead : {s t : Shape} {p : Pair} {g : Grammar s} {h : Grammar t} {a : List Lexeme} → IsFrontIn v _ (Seq (Tok (one p)) (Seq (Tok (two p)) g)) a → IsFrontIn v _ (Ahead p g h) a
+  f-not_ahead : {s t : Shape} {p : Pair} {g : Grammar s} {h : Grammar t} {a : List Lexeme} → IsFrontIn v _ h a → IsFrontIn v _ (Ahead p g h) a
+  f-here : {s : Shape} {g : Grammar s} {t : Lexeme} {a : List Lexeme} → IsFrontIn v _ g (seen t.at (t ∷ a)) → IsFrontIn v _ (Here g) (t ∷ a)
+  f-nt : {n : Rule} {a : List Lexeme} → IsFrontIn v _ (rule_in v n) a → IsFrontIn v _ (Nt n) a
+
+-- by the factored grammar
+abbrev pub Matches : (s : Shape) → Grammar s → List Lexeme → Val s → Type 0
+Matches s g tokens x = MatchesIn Factored s g tokens x
+
+abbrev pub IsFront : (s : Shape) → Grammar s → List Lexeme → Type 0
+IsFront s g tokens = IsFrontIn Factored s g tokens

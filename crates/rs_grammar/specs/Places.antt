@@ -22,4 +22,4 @@ pub record IsItemAt (items : List Placed) (at : At) (name : List ℕ) : Type 0 w
 
 -- a name that is defined twice is a module's, or that of an item, at the item's place
 abbrev pub NamesTwiceStand : Type 0
-NamesTwiceStand = (tokens : List Token) (at : At) (name : List ℕ) (twice : IsNameTwice tokens at name) → (twice.named.module ≡ None) ⊎ IsItemAt (items_of twice.sections) at name
+NamesTwiceStand = (tokens : List Token) (at : At) (name : List ℕ) (twice : IsNameTwice tokens at name) → (twice.twice.named.module ≡ None) ⊎ IsItemAt (items_of twice.sections) at name

@@ -7,30 +7,26 @@ ghost use Rattle.rs_tree.specs.declared.tree.Crate.{Crate};
 ghost use Rattle.rs_grammar.specs.declared.fault.SyntaxFault.{SyntaxFault};
 ghost use Rattle.rs_grammar.specs.declared.fault.SyntaxFault.TheVariants.{Memory};
 ghost use Rattle.rs_grammar.specs.Again.{ItemsFollow, ItemsParseAgain};
-ghost use Rattle.rs_grammar.specs.Correct.{HasTree, IsRefusal};
+ghost use Rattle.rs_grammar.specs.Correct.{HasTree, IsSyntaxRefusal};
 ghost use Rattle.rs_grammar.specs.Lexed.{PlacesTurn};
 ghost use Rattle.rs_grammar.specs.Places.{ExpressionsBegin, NamesTwiceStand};
 ghost use Rattle.rs_grammar.specs.Tidy.{NamesArePlain, TreesAreTidy};
 ghost use Rattle.rs_grammar.specs.There.{AnswersAreThere};
-ghost use Rattle.rs_grammar.specs.Written.{BodiesAsWritten, DefinitionsAsWritten, ListsAsWritten, PartsAsWritten, RoutesAsWritten, StatementsAsWritten, TailsAsWritten};
+ghost use Rattle.rs_grammar.specs.Written.{FormsAgree, TextsAgree};
 
-/// Rules that the grammar has in another form than docs/LANGUAGE.md writes them match the same tokens, make
-/// the same tree of them, and begin the same texts.
-pub fn rules_are_as_written()
-    ensures tails { TailsAsWritten }
-    ensures lists { ListsAsWritten }
-    ensures parts { PartsAsWritten }
-    ensures definitions { DefinitionsAsWritten }
-    ensures bodies { BodiesAsWritten }
-    ensures statements { StatementsAsWritten }
-    ensures routes { RoutesAsWritten }
+/// The grammar that docs/LANGUAGE.md writes and the one that is factored for the code say the same: of each named
+/// form, what matches it, with its tree, and what is a front of it; and of a whole text, as its tokens, its tree
+/// and its first fault.
+pub fn grammars_agree()
+    ensures forms { FormsAgree }
+    ensures texts { TextsAgree }
 {}
 
 /// Tokens have one tree or one first fault, and not both.
 pub fn answers_are_one()
     ensures tree { (tokens : List Token) (a b : Crate) → HasTree tokens a → HasTree tokens b → a ≡ b }
-    ensures faultless { (tokens : List Token) (end : At) (tree : Crate) (fault : SyntaxFault) → HasTree tokens tree → IsRefusal tokens end fault → fault ≡ Memory }
-    ensures fault { (tokens : List Token) (end : At) (a b : SyntaxFault) → IsRefusal tokens end a → IsRefusal tokens end b → (a ≡ b) ⊎ (a ≡ Memory) ⊎ (b ≡ Memory) }
+    ensures faultless { (tokens : List Token) (end : At) (tree : Crate) (fault : SyntaxFault) → HasTree tokens tree → IsSyntaxRefusal tokens end fault → fault ≡ Memory }
+    ensures fault { (tokens : List Token) (end : At) (a b : SyntaxFault) → IsSyntaxRefusal tokens end a → IsSyntaxRefusal tokens end b → (a ≡ b) ⊎ (a ≡ Memory) ⊎ (b ≡ Memory) }
 {}
 
 /// Each list of tokens has a tree or a fault.

@@ -13,8 +13,8 @@ mod sited;
 
 pub use fault::SyntaxFault;
 pub use laws::{
-    answers_are_one, answers_are_there, items_parse_again, parts_stand, places_turn,
-    rules_are_as_written, trees_are_tidy,
+    answers_are_one, answers_are_there, grammars_agree, items_parse_again, parts_stand,
+    places_turn, trees_are_tidy,
 };
 pub use lexed::{absolute, are_lexed};
 pub use named::Named;

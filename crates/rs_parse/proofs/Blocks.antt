@@ -79,9 +79,6 @@ pub last_turn : {u v : List Lexeme} {e : Expr} → next_in (first (Nt Worded)) u
 last_turn {e} c d r i = r-nt {n = Rest} {x = inr (inr (e, None))} (r-right c (r-other_way d (r-seq r.is (r-none i))))
 
 -- how a turn leads on
-pub body_none : {u : List Lexeme} → BodyTurns u [] u
-body_none = record { ends = λ y w r. r; fails = λ w r. r; on = omega arith }
-
 pub body_more : {u v w : List Lexeme} {done : List Stmt} {s : Stmt} → BodyTurns u done v → next_in (first (Nt Rest)) v ≡ true → OneMore v s w → BodyTurns u (done ++ s ∷ []) w
 body_more {u} {done} {s} t c m = record {
   ends = λ y z q. subst (λ (l : List Stmt). Parses _ (Nt Body) u (Some (l, y.1)) z) (sym (append_assoc done (s ∷ []) y.0)) (t.ends (s ∷ y.0, y.1) z (r-nt {n = Body} {x = Some (s ∷ y.0, y.1)} (r-some c (m.ends y z q))));

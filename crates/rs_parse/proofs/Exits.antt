@@ -52,12 +52,6 @@ passes {e = Syntax} (Err Syntax) i f k = failed (k f.is)
 passes {e = Memory} (Err Syntax) i f k = absurd cc
 passes (Err Memory) i f k = out_of_memory
 
--- want of memory
-pub wants : {t : Shape} {h : Grammar t} {u w : List Lexeme} (r : Result (Val t) Fault) → IsErrAnd r (λ d. d ≡ Memory) → Reading h u r w
-wants (Ok x) i = absurd i
-wants (Err Syntax) i = absurd cc
-wants (Err Memory) i = out_of_memory
-
 -- a result that is handed on
 pub hands : {s t : Shape} {g : Grammar s} {h : Grammar t} {u v w : List Lexeme} (r : Result (Val s) Fault) → Reading g v r w
     → (f : Val s → Val t) → (Parses _ g v None w → Parses _ h u None w) → ((x : Val s) → Parses _ g v (Some x) w → Parses _ h u (Some (f x)) w) → Reading h u (handed f r) w

@@ -34,15 +34,6 @@ pub next_in_seen : (p : ℕ → Bool) (base : At) (u : List Lexeme) → next_in 
 next_in_seen p base [] = refl
 next_in_seen p base (t ∷ u) = refl
 
-pub next_kind_seen : (base : At) (u : List Lexeme) → next_kind (seen base u) ≡ next_kind u
-next_kind_seen base [] = refl
-next_kind_seen base (t ∷ u) = refl
-
-pub second_kind_seen : (base : At) (u : List Lexeme) → second_kind (seen base u) ≡ second_kind u
-second_kind_seen base [] = refl
-second_kind_seen base (t ∷ []) = refl
-second_kind_seen base (t ∷ v ∷ u) = refl
-
 reads_seen : {c : Kind} {t : Lexeme} {u w : List Lexeme} (base : At) → Parses _ (Tok c) u (Some t) w → Parses _ (Tok c) (seen base u) (Some (moved base t)) (seen base w)
 reads_seen base (r-tok e) = r-tok e
 

@@ -38,6 +38,13 @@ assignment = Tok k.Name · Tok k.Assign · Nt Expression · Tok k.Semicolon
 abbrev pub assigned : Val (both lexeme (both lexeme (both (tree Expression) lexeme))) → Stmt
 assigned v = made Statement (inr (inl v))
 
+-- e ;
+abbrev pub evaluation : Grammar (both (tree Expression) lexeme)
+evaluation = Nt Expression · Tok k.Semicolon
+
+abbrev pub evaluated : Val (both (tree Expression) lexeme) → Stmt
+evaluated v = made Statement (inr (inr v))
+
 -- pub const ..
 abbrev pub public_constant : Grammar (both lexeme (both lexeme (tree Constant)))
 public_constant = Tok k.Pub · Tok k.Const · Nt Constant

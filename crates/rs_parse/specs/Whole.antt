@@ -1,6 +1,5 @@
 -- What the steps of a parse answer.
-use Rattle.std.specs.Prelude.{◌≡◌, ℕ, List, Result, Ok, Err}
-use Rattle.rs_tree.specs.declared.place.At.{At}
+use Rattle.std.specs.Prelude.{◌≡◌, List, Result, Ok, Err}
 use Rattle.rs_tree.specs.declared.token.Token.{Token}
 use Rattle.rs_grammar.specs.declared.fault.SyntaxFault.{SyntaxFault}
 use Rattle.rs_grammar.specs.declared.fault.SyntaxFault.TheVariants as fault
@@ -9,7 +8,7 @@ use Rattle.rs_grammar.specs.declared.named.Named.{Named}
 use Rattle.rs_grammar.specs.Lexeme.{lexemes}
 use Rattle.rs_grammar.specs.Grammar.{Section}
 use Rattle.rs_grammar.specs.Correct.{FitsCrate, modules_of, items_of, names_of}
-use Rattle.rs_grammar.specs.Twice.{AllOnce, IsFirstTwice}
+use Rattle.rs_grammar.specs.Twice.{AllOnce, IsTwiceAt}
 
 -- the sections of the whole text were added
 pub record HasSections (tokens : List Token) (found : Building) : Type 0 where
@@ -19,12 +18,6 @@ pub record HasSections (tokens : List Token) (found : Building) : Type 0 where
   pub modules : found.modules ≡ modules_of sections
   pub items : found.items ≡ items_of sections
   pub names : found.names ≡ names_of sections
-
-pub record IsTwiceAt (names : List Named) (at : At) (name : List ℕ) : Type 0 where
-  pub named : Named
-  pub first : IsFirstTwice names named
-  pub place : at ≡ named.at
-  pub text : name ≡ named.name
 
 -- each name is defined once, or which isn't
 abbrev pub HasNames : List Named → Result (Unit {0}) SyntaxFault → Type 0

@@ -3,7 +3,7 @@
 ghost use Rattle.std.specs.Prelude.{◌≡◌, IfOk, IfErr};
 ghost use Rattle.rs_grammar.specs.Lexeme.{lexemes, token_kinds};
 ghost use Rattle.rs_grammar.specs.Nesting.{IsShallow};
-ghost use Rattle.rs_grammar.specs.Correct.{HasTree, IsRefusal};
+ghost use Rattle.rs_grammar.specs.Correct.{HasTree, IsSyntaxRefusal};
 ghost use Rattle.rs_parse.specs.Whole.{HasSections, HasNames};
 
 use crate::fault::Fault;
@@ -25,7 +25,7 @@ use std::alloc::Global;
 /// places of an item are relative to its first token, as far as the tokens' places ascend.
 pub fn parse(alloc: Global, tokens: &[Token], end: At) -> Result<Crate, SyntaxFault>
     ensures tree { IfOk result (HasTree tokens.now) }
-    ensures fault { IfErr result (IsRefusal tokens.now end) }
+    ensures fault { IfErr result (IsSyntaxRefusal tokens.now end) }
 {
     let kinds = kinds_of(alloc, tokens)?;
     if let Some(at) = first_too_deep(tokens, &kinds) {
@@ -47,7 +47,7 @@ fn read_all(
     requires kinds { kinds.now ≡ token_kinds tokens.now }
     requires shallow { IsShallow (lexemes tokens.now) }
     ensures found { IfOk result (HasSections tokens.now) }
-    ensures fault { IfErr result (IsRefusal tokens.now end) }
+    ensures fault { IfErr result (IsSyntaxRefusal tokens.now end) }
 {
     let mut found = Building::new(alloc);
     let mut rest = Whole::new(tokens, kinds);

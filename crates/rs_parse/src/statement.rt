@@ -3,7 +3,7 @@
 //! They call each other only where braces nest: lists of statements and chains of `else if` are loops.
 
 ghost use Rattle.std.specs.Prelude.{◌≡◌, IfOk};
-ghost use Rattle.rs_parse.specs.Blocks.{assignment, assigned};
+ghost use Rattle.rs_parse.specs.Blocks.{assignment, assigned, evaluation, evaluated};
 ghost use Rattle.rs_grammar.specs.Lexeme.{Lexeme};
 ghost use Rattle.rs_grammar.specs.Grammar.{Arm, Binding, Block, Choice, Loop, Nt, OtherArms, Printing, Rep, Returning, Statement, Worded, made};
 ghost use Rattle.rs_parse.specs.Reading.{Reading, ReadingAs};
@@ -97,6 +97,15 @@ pub(crate) fn assignment(alloc: Global, tokens: &mut Tokens<'_>) -> Result<Stmt,
     Ok(stored(&name, value)?)
 }
 
+/// An expression for what it does, whose value goes nowhere.
+fn evaluation(alloc: Global, tokens: &mut Tokens<'_>) -> Result<Stmt, Fault>
+    ensures { ReadingAs evaluation evaluated tokens.old result tokens.new }
+{
+    let unused = expression(alloc, tokens)?;
+    tokens.expect(Kind::Semicolon)?;
+    Ok(Stmt::Eval(unused))
+}
+
 /// A statement that begins with a word of its own.
 #[cycle(statement)]
 pub(crate) fn worded(alloc: Global, tokens: &mut Tokens<'_>) -> Result<Stmt, Fault>
@@ -127,9 +136,7 @@ fn statement(alloc: Global, tokens: &mut Tokens<'_>) -> Result<Stmt, Fault>
     if tokens.sees_assignment() {
         return assignment(alloc, tokens);
     }
-    let value = expression(alloc, tokens)?;
-    tokens.expect(Kind::Semicolon)?;
-    Ok(Stmt::Eval(value))
+    evaluation(alloc, tokens)
 }
 
 #[cycle(statement)]

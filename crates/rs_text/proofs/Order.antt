@@ -3,11 +3,11 @@ use Rattle.std.proofs.Common.{◌≡◌, ℕ, ◌+◌, ◌<◌, ◌⊎◌, Bool,
 use Rattle.rs_tree.specs.declared.place.At.{At}
 use Rattle.rs_tree.specs.declared.token.Token.{Token}
 use Rattle.rs_lex.specs.Pieces as p
-use Rattle.rs_lex.specs.Pieces.{Piece, Stands, spelling}
+use Rattle.rs_lex.specs.Pieces.{Piece}
 use Rattle.rs_lex.specs.Places.{is_line_feed, place_of, place_after}
 use Rattle.rs_lex.specs.Tokens.{AllStand, HasTokens, joined, tokens_in}
-use Rattle.rs_lex.proofs.Found.{piece_at-found, piece_at-is}
 use Rattle.rs_lex.proofs.PlaceSteps.{place_after_is}
+use Rattle.rs_lex.proofs.Ranges.{some_bytes}
 use Rattle.rs_grammar.specs.Lexed.{IsBefore, IsNotAfter, first_or, Ascend, AreTokens, IsLexed}
 use Rattle.rs_text.specs.Laws.{TokensAreLexed}
 
@@ -38,9 +38,6 @@ further at b (c ∷ bs) = before_both (step at (is_line_feed b)) (further (if is
 goes_on : (before text : List ℕ) → 0 < length text → IsBefore (place_of before) (place_of (before ++ text))
 goes_on before [] h = absurd (omega (arith, h))
 goes_on before (b ∷ bs) h = subst (IsBefore (place_of before)) (place_after_is before (b ∷ bs)) (further (place_of before) b bs)
-
-some_bytes : (piece : Piece) (after : List ℕ) → Stands piece after → 0 < length (spelling piece)
-some_bytes piece after stands = (piece_at-found (spelling piece ++ after) piece (piece_at-is (spelling piece ++ after) piece after refl stands)).some
 
 module _ (end : At) where
   first_later : (before : List ℕ) (pieces : List Piece) (rest : List ℕ) → AllStand pieces rest → end ≡ place_of (before ++ joined pieces) → IsNotAfter (place_of before) (first_or end (tokens_in before pieces))

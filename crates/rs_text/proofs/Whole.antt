@@ -9,13 +9,13 @@ use Rattle.rs_lex.specs.declared.fault.LexFault.TheVariants as lex
 use Rattle.rs_lex.specs.Places.{place_of}
 use Rattle.rs_lex.specs.Tokens.{HasTokens, HasFault}
 use Rattle.rs_lex.proofs.Total.{texts_are_answered, one_answer}
-use Rattle.rs_grammar.specs.Correct.{HasTree, IsRefusal}
+use Rattle.rs_grammar.specs.Correct.{HasTree, IsSyntaxRefusal}
 use Rattle.rs_grammar.specs.declared.fault.SyntaxFault.{SyntaxFault}
 use Rattle.rs_grammar.specs.declared.fault.SyntaxFault.TheVariants as syntax
 use Rattle.rs_grammar.proofs.Decided.{one_tree, tree_faultless, one_refusal}
 use Rattle.rs_grammar.proofs.There.{answers_are_there}
 use Rattle.rs_text.specs.Faults.{fault_of}
-use Rattle.rs_text.specs.Text.{IsTextRefusal, IsLexedAs, IsParsedAs, IsReadAs, lexing, lexed, parsing, parsed, parsed_text, lexed_text, text_of}
+use Rattle.rs_text.specs.Text.{IsTextRefusal, IsLexedAs, IsParsedAs, IsTextAs, lexing, lexed, parsing, parsed, parsed_text, lexed_text, text_of}
 use Rattle.rs_text.specs.Laws.{LexedIs, ParsedIs, TextIs}
 use Rattle.rs_text.specs.declared.fault.TextFault.{TextFault}
 use Rattle.rs_text.specs.declared.fault.TextFault.TheVariants as text
@@ -41,7 +41,7 @@ pub parsed_is : (tokens : List Token) (end : At) → IsParsedAs tokens end (pars
 unfolding parsed
 parsed_is tokens end = go (answers_are_there tokens end)
   where
-    go : (a : ((tree : Crate) × HasTree tokens tree) ⊎ ((fault : SyntaxFault) × IsRefusal tokens end fault × (fault ≡ syntax.Memory → ⊥))) → IsParsedAs tokens end (parsing tokens end a)
+    go : (a : ((tree : Crate) × HasTree tokens tree) ⊎ ((fault : SyntaxFault) × IsSyntaxRefusal tokens end fault × (fault ≡ syntax.Memory → ⊥))) → IsParsedAs tokens end (parsing tokens end a)
     go (inl found) = found.1
     go (inr fault) = (fault.1, fault.2)
 
@@ -54,18 +54,18 @@ same_parsed tokens end (Err x) (Err y) p q = elim (one_refusal tokens end x y p.
 pub parsed_only : (tokens : List Token) (end : At) (answer : Result Crate SyntaxFault) → IsParsedAs tokens end answer → answer ≡ parsed tokens end
 parsed_only tokens end answer p = same_parsed tokens end answer (parsed tokens end) p (parsed_is tokens end)
 
-text_is : (bytes : List ℕ) → IsReadAs bytes (text_of bytes)
+text_is : (bytes : List ℕ) → IsTextAs bytes (text_of bytes)
 unfolding text_of
 text_is bytes = on (lexed bytes) (lexed_is bytes)
   where
-    within : (tokens : List Token) → HasTokens bytes tokens → (r : Result Crate SyntaxFault) → IsParsedAs tokens (place_of bytes) r → IsReadAs bytes (parsed_text r)
+    within : (tokens : List Token) → HasTokens bytes tokens → (r : Result Crate SyntaxFault) → IsParsedAs tokens (place_of bytes) r → IsTextAs bytes (parsed_text r)
     within tokens are (Ok tree) p = record { tokens = tokens; are = are; holds = p }
     within tokens are (Err (syntax.Nesting at)) p = record { tokens = tokens; are = are; holds = p.0 }
     within tokens are (Err (syntax.Syntax at)) p = record { tokens = tokens; are = are; holds = p.0 }
     within tokens are (Err (syntax.Twice at name)) p = record { tokens = tokens; are = are; holds = p.0 }
     within tokens are (Err syntax.Memory) p = p.1 refl
 
-    on : (r : Result (List Token) At) → IsLexedAs bytes r → IsReadAs bytes (lexed_text (place_of bytes) r)
+    on : (r : Result (List Token) At) → IsLexedAs bytes r → IsTextAs bytes (lexed_text (place_of bytes) r)
     on (Ok tokens) p = within tokens p (parsed tokens (place_of bytes)) (parsed_is tokens (place_of bytes))
     on (Err at) p = p
 
@@ -83,13 +83,13 @@ pub byte_so : (bytes : List ℕ) (f : LexFault) (at : At) → f ≡ lex.At at �
 byte_so bytes (lex.At to) at e p = let same : to ≡ at = cc in sym (fault_so bytes at (subst (HasFault bytes) same p))
 byte_so bytes lex.Memory at e p = absurd cc
 
-pub refusal_so : (bytes : List ℕ) (tokens : List Token) (end : At) → HasTokens bytes tokens → end ≡ place_of bytes → (f : SyntaxFault) → IsRefusal tokens end f → IsTextRefusal bytes (fault_of f)
+pub refusal_so : (bytes : List ℕ) (tokens : List Token) (end : At) → HasTokens bytes tokens → end ≡ place_of bytes → (f : SyntaxFault) → IsSyntaxRefusal tokens end f → IsTextRefusal bytes (fault_of f)
 refusal_so bytes tokens end are e (syntax.Nesting at) p = sym (read_so bytes tokens (Err (syntax.Nesting at)) are (p, λ z. cc))
-refusal_so bytes tokens end are e (syntax.Syntax at) p = sym (read_so bytes tokens (Err (syntax.Syntax at)) are (subst (λ (w : At). IsRefusal tokens w (syntax.Syntax at)) e p, λ z. cc))
+refusal_so bytes tokens end are e (syntax.Syntax at) p = sym (read_so bytes tokens (Err (syntax.Syntax at)) are (subst (λ (w : At). IsSyntaxRefusal tokens w (syntax.Syntax at)) e p, λ z. cc))
 refusal_so bytes tokens end are e (syntax.Twice at name) p = sym (read_so bytes tokens (Err (syntax.Twice at name)) are (p, λ z. cc))
 refusal_so bytes tokens end are e syntax.Memory p = tt
 
-pub text_only : (bytes : List ℕ) (answer : Result Crate TextFault) → IsReadAs bytes answer → answer ≡ text_of bytes
+pub text_only : (bytes : List ℕ) (answer : Result Crate TextFault) → IsTextAs bytes answer → answer ≡ text_of bytes
 text_only bytes (Ok tree) p = read_so bytes p.tokens (Ok tree) p.are p.holds
 text_only bytes (Err (text.Byte at)) p = fault_so bytes at p
 text_only bytes (Err (text.Nesting at)) p = read_so bytes p.tokens (Err (syntax.Nesting at)) p.are (p.holds, λ e. cc)

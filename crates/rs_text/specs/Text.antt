@@ -9,7 +9,7 @@ use Rattle.rs_lex.specs.Tokens.{HasTokens, HasFault}
 use Rattle.rs_lex.proofs.Total.{texts_are_answered}
 use Rattle.rs_grammar.specs.Lexeme.{lexemes}
 use Rattle.rs_grammar.specs.Nesting.{IsTooDeep}
-use Rattle.rs_grammar.specs.Correct.{HasTree, IsRefusal, IsSyntaxFault, IsNameTwice}
+use Rattle.rs_grammar.specs.Correct.{HasTree, IsSyntaxRefusal, IsSyntaxFault, IsNameTwice}
 use Rattle.rs_grammar.specs.declared.fault.SyntaxFault.{SyntaxFault}
 use Rattle.rs_grammar.specs.declared.fault.SyntaxFault.TheVariants as syntax
 use Rattle.rs_grammar.proofs.There.{answers_are_there}
@@ -25,7 +25,7 @@ IsLexedAs bytes (Err at) = HasFault bytes at
 -- the tree of tokens, or their first fault, which is never want of memory
 abbrev pub IsParsedAs : List Token → At → Result Crate SyntaxFault → Type 0
 IsParsedAs tokens end (Ok tree) = HasTree tokens tree
-IsParsedAs tokens end (Err fault) = IsRefusal tokens end fault × (fault ≡ syntax.Memory → ⊥)
+IsParsedAs tokens end (Err fault) = IsSyntaxRefusal tokens end fault × (fault ≡ syntax.Memory → ⊥)
 
 -- the text has tokens, of which this holds
 pub record WithTokens (bytes : List ℕ) (P : List Token → Type 0) : Type 0 where
@@ -35,13 +35,13 @@ pub record WithTokens (bytes : List ℕ) (P : List Token → Type 0) : Type 0 wh
 
 -- The tree of a text, or the first of its faults: a byte at which nothing begins, nesting, syntax, a name
 -- defined twice.
-abbrev pub IsReadAs : List ℕ → Result Crate TextFault → Type 0
-IsReadAs bytes (Ok tree) = WithTokens bytes (λ tokens. HasTree tokens tree)
-IsReadAs bytes (Err (text.Byte at)) = HasFault bytes at
-IsReadAs bytes (Err (text.Nesting at)) = WithTokens bytes (λ tokens. IsTooDeep (lexemes tokens) at)
-IsReadAs bytes (Err (text.Syntax at)) = WithTokens bytes (λ tokens. IsSyntaxFault tokens (place_of bytes) at)
-IsReadAs bytes (Err (text.Twice at name)) = WithTokens bytes (λ tokens. IsNameTwice tokens at name)
-IsReadAs bytes (Err text.Memory) = ⊥
+abbrev pub IsTextAs : List ℕ → Result Crate TextFault → Type 0
+IsTextAs bytes (Ok tree) = WithTokens bytes (λ tokens. HasTree tokens tree)
+IsTextAs bytes (Err (text.Byte at)) = HasFault bytes at
+IsTextAs bytes (Err (text.Nesting at)) = WithTokens bytes (λ tokens. IsTooDeep (lexemes tokens) at)
+IsTextAs bytes (Err (text.Syntax at)) = WithTokens bytes (λ tokens. IsSyntaxFault tokens (place_of bytes) at)
+IsTextAs bytes (Err (text.Twice at name)) = WithTokens bytes (λ tokens. IsNameTwice tokens at name)
+IsTextAs bytes (Err text.Memory) = ⊥
 
 abbrev pub lexing : (bytes : List ℕ) → ((tokens : List Token) × HasTokens bytes tokens) ⊎ ((at : At) × HasFault bytes at) → Result (List Token) At
 lexing bytes (inl found) = Ok found.0
@@ -51,7 +51,7 @@ lexing bytes (inr fault) = Err fault.0
 unfoldable pub lexed : List ℕ → Result (List Token) At
 lexed bytes = lexing bytes (texts_are_answered bytes)
 
-abbrev pub parsing : (tokens : List Token) (end : At) → ((tree : Crate) × HasTree tokens tree) ⊎ ((fault : SyntaxFault) × IsRefusal tokens end fault × (fault ≡ syntax.Memory → ⊥)) → Result Crate SyntaxFault
+abbrev pub parsing : (tokens : List Token) (end : At) → ((tree : Crate) × HasTree tokens tree) ⊎ ((fault : SyntaxFault) × IsSyntaxRefusal tokens end fault × (fault ≡ syntax.Memory → ⊥)) → Result Crate SyntaxFault
 parsing tokens end (inl found) = Ok found.0
 parsing tokens end (inr fault) = Err fault.0
 

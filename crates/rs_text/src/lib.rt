@@ -9,5 +9,5 @@ mod laws;
 mod text;
 
 pub use fault::TextFault;
-pub use laws::{lexed_tokens_are_lexed, texts_are_read};
+pub use laws::{lexed_tokens_are_lexed, lexed_tokens_fit, texts_are_read};
 pub use text::read_text;

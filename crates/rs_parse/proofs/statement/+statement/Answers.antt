@@ -5,7 +5,7 @@ use Rattle.rs_parse.specs.Reading.{Reading}
 use Rattle.rs_parse.proofs.Exits.{passes, read, read_as, hands, as_is, turns_more, tail_more, tail_last, tail_no_turn}
 use Rattle.rs_parse.proofs.Makes.{hands_made}
 use Rattle.rs_tree.specs.Kinds.{code}
-use Rattle.rs_parse.specs.Blocks.{assignment, assigned}
+use Rattle.rs_parse.specs.Blocks.{assignment, assigned, evaluation, evaluated}
 use Rattle.rs_parse.proofs.Blocks.{tail_no_last}
 use Rattle.rs_parse.proofs.statement.+statement.Goals as goal
 
@@ -41,14 +41,8 @@ statement-returns-then-sees_worded t c = as_is (λ q. Reading (Nt Statement) c.a
 pub statement-returns-then-sees_assignment : goal.statement-returns-then-sees_assignment
 statement-returns-then-sees_assignment t c = hands_made {g = assignment} {h = Nt Statement} {f = assigned} c.assignment.result c.assignment.ensures (λ r. r-no_nt {n = Statement} (r-no_right (sym c.if-sees_worded.ensures) (r-no_ahead (sym c.if-sees_assignment.ensures) r))) (λ y r. r-nt {n = Statement} {x = inr (inl y)} (r-right (sym c.if-sees_worded.ensures) (r-ahead (sym c.if-sees_assignment.ensures) r)))
 
-pub statement-returns-in_err-value : goal.statement-returns-in_err-value
-statement-returns-in_err-value t c = passes c.from_residual.result c.from_residual.ensures.1 c.in_err-value.ensures (λ r. r-no_nt {n = Statement} (r-no_right (sym c.if-sees_worded.ensures) (r-no_other_way (sym c.if-sees_assignment.ensures) (r-first r))))
-
-pub statement-returns-in_err-expect : goal.statement-returns-in_err-expect
-statement-returns-in_err-expect t c = passes c.from_residual-in_err-expect.result c.from_residual-in_err-expect.ensures.1 c.in_err-expect.ensures (λ r. r-no_nt {n = Statement} (r-no_right (sym c.if-sees_worded.ensures) (r-no_other_way (sym c.if-sees_assignment.ensures) (r-second c.in_ok-value.ensures.is r))))
-
 pub statement-returns : goal.statement-returns
-statement-returns t c = read (r-nt {n = Statement} {x = inr (inr (c.in_ok-value.value, c.in_ok-expect.field-0))} (r-right (sym c.if-sees_worded.ensures) (r-other_way (sym c.if-sees_assignment.ensures) (r-seq c.in_ok-value.ensures.is c.in_ok-expect.ensures.is))))
+statement-returns t c = hands_made {g = evaluation} {h = Nt Statement} {f = evaluated} c.evaluation.result c.evaluation.ensures (λ r. r-no_nt {n = Statement} (r-no_right (sym c.if-sees_worded.ensures) (r-no_other_way (sym c.if-sees_assignment.ensures) r))) (λ y r. r-nt {n = Statement} {x = inr (inr y)} (r-right (sym c.if-sees_worded.ensures) (r-other_way (sym c.if-sees_assignment.ensures) r)))
 
 pub statements-returns-in_err-statement : goal.statements-returns-in_err-statement
 statements-returns-in_err-statement t c = passes c.from_residual.result c.from_residual.ensures.1 c.in_err-statement.ensures (λ r. c.turns.invariant.fails _ (r-no_turn (sym c.turns-test.ensures) r))

@@ -6,3 +6,5 @@ pub mod Complete
 pub mod Helds
 pub mod Given
 pub mod Cleared
+pub mod Mays
+pub mod Runs

@@ -13,5 +13,6 @@ pub mod Finals
 pub mod OwnDirs
 pub mod Clears
 pub mod Sought
+pub mod Asked
 pub mod Seen
 pub mod Grounds

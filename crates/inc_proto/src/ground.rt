@@ -1,4 +1,4 @@
-ghost use Rattle.std.specs.Prelude.{◌≡◌, ◌<◌, ◌+◌, ◌-◌, ◌^◌, ◌∷◌, ◌++◌, [], IfOk, IsOk, OnOk, OnErr, None, Some, reverse, true};
+ghost use Rattle.std.specs.Prelude.{◌≡◌, ◌<◌, ◌+◌, ◌-◌, ◌^◌, ◌∷◌, ◌++◌, [], IfOk, IsOk, IsTrue, ◌↔◌, OnOk, OnErr, None, Some, reverse, true};
 ghost use Rattle.inc_fs.specs.State.{start, end_of};
 ghost use Rattle.inc_fs.specs.Step.{StepWith};
 ghost use Rattle.inc_fs.specs.declared.op.Op.TheVariants.{Draw};
@@ -137,6 +137,23 @@ impl<C: Content> Ground<C> {
                 self.running += 1;
                 Ok(number)
             }
+        }
+    }
+
+    /// Whether the session of this number runs and may make this step, which costs what `View::permits`
+    /// does. `Memory` where there is no memory for the answer.
+    pub fn permits(&self, who: u32, op: &Op) -> Result<bool, Memory>
+        ensures { IfOk result (λ yes. IsTrue yes ↔ MayDo C.files self.now.history who op.now) }
+    {
+        match self.sessions.get(who as usize) {
+            Some(one) => {
+                if one.runs {
+                    one.view.permits(&self.content, op)
+                } else {
+                    Ok(false)
+                }
+            }
+            None => Ok(false),
         }
     }
 

@@ -7,6 +7,8 @@ ghost use Rattle.inc_proto.specs.Views.Dir.{Unmade};
 ghost use Rattle.inc_proto.specs.Views.{dir, dir_after, is_here, changed};
 ghost use Rattle.inc_proto.specs.OwnDirs.{change_by, made_site, left_site, next_site, files_in, next_files};
 
+mod asks;
+
 use crate::own::Known;
 use inc_base::{Bytes, Copied, Label, List, Memory};
 use inc_fs::{Op, Reply, Table};

@@ -1,6 +1,12 @@
 -- The drawn pairs of a state are those that were drawn in its history.
 use Rattle.std.specs.Prelude.{◌≡◌, ℕ, List, [], ◌∷◌, refl, Option, Some, None, take}
 use Rattle.std.proofs.Common.{ap, ◌∙◌}
+use Rattle.std.specs.Prelude.{◌+◌, cond, length, count_by, reverse}
+use Rattle.std.specs.List.{sum_by}
+use Rattle.std.proofs.Common.{arith}
+use Rattle.std.proofs.lemmas.Grind.{reverse_onto}
+use Rattle.std.proofs.lemmas.List.Sums.{sum_by-append}
+use Rattle.std.proofs.lemmas.List.Recursion.{is_count_by}
 use Rattle.inc_fs.specs.declared.state.File.{File}
 use Rattle.inc_fs.specs.declared.op.Op.{Op}
 use Rattle.inc_fs.specs.declared.op.Op.TheVariants.{Draw, MakeLock, OpenLock, TryLock, Look, ListDir, MakeDir, Link, Read, Create, Append, Unlink, UnlinkLock, RemoveDir, Rename, Close}
@@ -11,7 +17,7 @@ use Rattle.inc_fs.specs.Step.{Step}
 use Rattle.inc_proto.specs.declared.event.Event.{Event}
 use Rattle.inc_proto.specs.declared.event.Event.TheVariants.{Begin, Did, Left}
 use Rattle.inc_proto.specs.Leads.{LeadsTo, stopped}
-use Rattle.inc_laws.specs.Drawn.{drawn_by, drawn_in}
+use Rattle.inc_laws.specs.Drawn.{drawn_by, drawn_in, is_draw, is_drawing}
 
 abbrev drawn_of : State → List (ℕ × ℕ)
 drawn_of F = F.drawn
@@ -70,3 +76,23 @@ drawn_is [] G is = ap drawn_of is
 drawn_is (Begin number job ∷ events) G (F, leads, is) = ap drawn_of is.1 ∙ drawn_is events F leads
 drawn_is (Did number op reply ∷ events) G (F, leads, is) = step_drawn F number op reply G is ∙ ap (drawn_by op reply) (drawn_is events F leads)
 drawn_is (Left number op cut ∷ events) G (F, leads, is) = ap drawn_of is ∙ stopped_drawn F op cut number ∙ drawn_is events F leads
+
+-- ---- They are counted.
+
+counted_by : (op : Op) (reply : Reply) (pairs : List (ℕ × ℕ)) → length (drawn_by op reply pairs) ≡ cond (is_draw op reply) (1 + length pairs) (length pairs)
+counted_by Draw (Drawn moment random) pairs = omega arith
+counted_by op reply pairs = refl
+
+counted_next : (event : Event) (events : List Event) → length (drawn_in (event ∷ events)) ≡ cond (is_drawing event) (1 + length (drawn_in events)) (length (drawn_in events))
+counted_next (Begin number job) events = refl
+counted_next (Did number op reply) events = counted_by op reply (drawn_in events)
+counted_next (Left number op cut) events = refl
+
+turned : (f : Event → ℕ) (events : List Event) → sum_by f (reverse events) ≡ sum_by f events
+turned f [] = refl
+turned f (x ∷ xs) =
+    ap (sum_by f) (reverse_onto xs x []) ∙ sum_by-append f (reverse xs) (x ∷ []) ∙ omega (arith, turned f xs, sum_by-append f (x ∷ []) xs)
+
+-- as the events that are draws, in their order
+pub drawn_count : (events : List Event) → length (drawn_in (reverse events)) ≡ count_by is_drawing events
+drawn_count events = is_count_by (λ events. length (drawn_in events)) is_drawing refl counted_next (reverse events) ∙ turned (λ event. cond (is_drawing event) 1 0) events

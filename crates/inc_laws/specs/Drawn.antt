@@ -1,5 +1,5 @@
 -- What was drawn in a history.
-use Rattle.std.specs.Prelude.{ℕ, List, [], ◌∷◌}
+use Rattle.std.specs.Prelude.{ℕ, Bool, true, false, List, [], ◌∷◌}
 use Rattle.inc_fs.specs.declared.op.Op.{Op}
 use Rattle.inc_fs.specs.declared.op.Op.TheVariants.{Draw}
 use Rattle.inc_fs.specs.declared.op.Reply.{Reply}
@@ -18,3 +18,13 @@ drawn_in [] = []
 drawn_in (Begin number job ∷ events) = drawn_in events
 drawn_in (Did number op reply ∷ events) = drawn_by op reply (drawn_in events)
 drawn_in (Left number op cut ∷ events) = drawn_in events
+
+-- whether this step is a draw that was answered by a pair
+abbrev pub is_draw : Op → Reply → Bool
+is_draw Draw (Drawn moment random) = true
+is_draw op reply = false
+
+abbrev pub is_drawing : Event → Bool
+is_drawing (Begin number job) = false
+is_drawing (Did number op reply) = is_draw op reply
+is_drawing (Left number op cut) = false

@@ -2,15 +2,18 @@
 //!
 //! `inc_fs`, `inc_names`, `inc_wire` and `inc_proto` stand below. The ten invariants are said in
 //! `specs/Invariants.antt`, which a reader should open first, over the readings of `specs/Readings.antt`;
-//! `specs/Laws.antt` has what each event keeps. Each law is the contract of a call that does nothing.
+//! `specs/Laws.antt` has what each event keeps. Each law is the contract of a call that does nothing;
+//! `names_once` answers for a ground.
 #![tactic(auto)]
 
+mod counts;
 mod events;
 mod expects;
 mod invariants;
 mod published;
 mod steps;
 
+pub use counts::names_once;
 pub use events::{
     beginnings_keep_laws, leavings_keep_laws, legal_histories_keep_laws, the_start_keeps_laws,
 };

@@ -13,28 +13,17 @@ use Rattle.rs_tree.specs.declared.tree.Typ.TheVariants as t
 use Rattle.rs_tree.specs.declared.tree.ArithOp.{ArithOp}
 use Rattle.rs_tree.specs.declared.tree.CmpOp.{CmpOp}
 use Rattle.rs_tree.specs.declared.tree.UnaryOp.{UnaryOp}
-use Rattle.rs_tree.specs.Plain.{at_of, Exp, Exps, Operands, Number, Truth, Path, Call, Group, Unary, Arith, Compare, And, Or, By, exp, expressions, operations}
+use Rattle.rs_tree.specs.Plain.{at_of, Exp, Exps, Operands, Path, Call, Unary, Arith, Compare, By, exp, expressions, operations}
 use Rattle.rs_tree.specs.Equations.{turns, known_forms, at_is, expressions_at, operations_at}
 use Rattle.rs_tree.specs.Leaves.{answer, filled, filled_all, filled_by, leaves, leaves_all, leaves_by}
 use Rattle.rs_tree.specs.Weight.{measures, size, sizes, sizes_by}
 use Rattle.rs_lookup.specs.Env.{Env}
+use Rattle.rs_types.specs.Answered.{at_filled}
 use Rattle.rs_types.specs.declared.typer.Typer.{Typer}
 use Rattle.rs_types.specs.Types.{Leaf, all_ints, all_truths, args_fit, args_wrongs, call_wrongs, called, count, is_typ, first_fits, need, need_first, need_same, need_value, operand, path_reads, path_wrongs, reads, wants, wrongs, wrongs_by, wrongs_of_truths}
 use Rattle.rs_types.specs.State.{argued, at_any, chained, conjoined, context, fill, grown, looked, said, typed, with_reads}
 
 -- ---- Plain facts.
-
-pub at_filled : (bs : List Found) (e : Exp path.Path) → at_of (filled Absent bs e) ≡ at_of e
-at_filled bs (Number at n) = refl
-at_filled bs (Truth at b) = refl
-at_filled bs (Path at p) = refl
-at_filled bs (Call at p args) = refl
-at_filled bs (Group at e) = refl
-at_filled bs (Unary at op e) = refl
-at_filled bs (Arith at first more) = refl
-at_filled bs (Compare at op a b) = refl
-at_filled bs (And at parts) = refl
-at_filled bs (Or at parts) = refl
 
 count_filled : (bs : List Found) (es : Exps path.Path) → count (filled_all Absent bs es) ≡ count es
 count_filled bs Exps.Empty = refl

@@ -1,5 +1,5 @@
 -- Where expressions and items stand.
-use Rattle.std.proofs.Common.{◌≡◌, ℕ, zero, ◌-◌, ◌==◌, false, true, if◌then◌else◌, ◌⊎◌, inl, inr, List, [], ◌∷◌, ◌++◌, map, Option, Some, None, refl, sym, ap, ◌∙◌, subst, arith}
+use Rattle.std.proofs.Common.{◌≡◌, ℕ, zero, ◌-◌, ◌==◌, false, true, if◌then◌else◌, ◌⊎◌, inl, inr, List, [], ◌∷◌, ◌++◌, map, Some, None, refl, sym, ap, ◌∙◌, subst, arith}
 use Rattle.std.specs.List.{Contains}
 use Rattle.std.proofs.lemmas.List.Elements.{Contains-append_right}
 use Rattle.std.proofs.lemmas.Bool.Decides.{nat_tests}
@@ -7,7 +7,6 @@ use Rattle.rs_tree.specs.Kinds.{code, same_kind}
 use Rattle.rs_tree.specs.declared.kind.Kind.{Kind}
 use Rattle.rs_tree.specs.declared.kind.Kind.TheVariants as k
 use Rattle.rs_tree.specs.declared.place.At.{At}
-use Rattle.rs_tree.specs.declared.token.Token.{Token}
 use Rattle.rs_tree.specs.declared.tree.ArithOp.{ArithOp}
 use Rattle.rs_tree.specs.declared.tree.Expr.{Expr}
 use Rattle.rs_tree.specs.declared.tree.Item as item
@@ -15,9 +14,9 @@ use Rattle.rs_tree.specs.declared.tree.Path as path
 use Rattle.rs_tree.specs.declared.tree.Placed.{Placed}
 use Rattle.rs_grammar.specs.declared.named.Named.{Named}
 use Rattle.rs_grammar.specs.declared.sited.Sited.{Sited}
-use Rattle.rs_grammar.specs.Lexeme.{Lexeme, lexemes, moved, name_place, next_place, nowhere, relative, seen}
-use Rattle.rs_grammar.specs.Grammar.{Section, Module, Alone, Rep, Opt, Tok, Nt, Text, Part, Contents, Item, Definition, Constant, Function, Marker, Expression, Conjunction, Comparison, Sum, Product, Unary, Primary, Literal, Use, Route, Group, or_of, and_of, arith_of, Matches, m-tok, m-seq, m-left, m-right, m-none, m-some, m-stop, m-turn, m-ahead, m-not_ahead, m-here, m-nt}
-use Rattle.rs_grammar.specs.Correct.{FitsCrate, placed_in, name_in, items_of, names_of, IsNameTwice}
+use Rattle.rs_grammar.specs.Lexeme.{Lexeme, name_place, next_place, nowhere, relative, seen}
+use Rattle.rs_grammar.specs.Grammar.{Section, Module, Alone, Rep, Opt, Tok, Nt, Part, Contents, Item, Definition, Constant, Function, Marker, Expression, Conjunction, Comparison, Sum, Product, Unary, Primary, Literal, Use, Route, Group, or_of, and_of, arith_of, Matches, m-tok, m-seq, m-left, m-right, m-none, m-some, m-stop, m-turn, m-ahead, m-not_ahead, m-here, m-nt}
+use Rattle.rs_grammar.specs.Correct.{FitsCrate, placed_in, name_in, items_of, names_of}
 use Rattle.rs_grammar.specs.Tidy.{Throughout}
 use Rattle.rs_grammar.specs.Places.{ExpressionsBegin, IsItemAt, NamesTwiceStand}
 

@@ -12,7 +12,7 @@ use Rattle.rs_tree.specs.declared.tree.Crate.{Crate}
 use Rattle.rs_grammar.specs.declared.fault.SyntaxFault.{SyntaxFault}
 use Rattle.rs_grammar.specs.declared.fault.SyntaxFault.TheVariants as fault
 use Rattle.rs_grammar.specs.Lexeme.{Lexeme}
-use Rattle.rs_grammar.specs.Grammar.{Rule, Shape, lexeme, nothing, both, either, maybe, many, tree, shape, Val, Pair, one, two, Grammar, Tok, Empty, Seq, Alt, Opt, Rep, Tail, Ahead, Nt, rule, made, before, second, held, Part, Contents, Item, Definition, Constant, Function, Param, OtherParams, Body, Rest, Statement, Arm, OtherArms, Block, Expression, OtherArgs, Route, Member, Section, Text, written, written_shape, written_made, Version, AsWritten, Factored, shape_in, rule_in, made_in, MatchesIn, IsFrontIn, Matches, IsFront, m-tok, m-empty, m-seq, m-left, m-right, m-none, m-some, m-stop, m-turn, m-tail_stop, m-tail_last, m-tail_turn, m-ahead, m-not_ahead, m-here, m-nt, f-none, f-tok, f-first, f-rest, f-left, f-right, f-some, f-turn, f-turns, f-tail_last, f-tail_turn, f-tail_turns, f-ahead, f-not_ahead, f-here, f-nt}
+use Rattle.rs_grammar.specs.Grammar.{Rule, Shape, lexeme, nothing, both, either, maybe, many, tree, shape, Val, Pair, one, two, Grammar, Tok, Empty, Seq, Alt, Opt, Rep, Tail, Ahead, Nt, rule, made, before, second, held, Part, Contents, Item, Definition, Constant, Function, OtherParams, Body, Rest, Statement, Arm, OtherArms, Block, Expression, OtherArgs, Route, Member, Section, Text, written, written_shape, written_made, Version, AsWritten, Factored, shape_in, rule_in, made_in, MatchesIn, IsFrontIn, Matches, IsFront, m-tok, m-empty, m-seq, m-left, m-right, m-none, m-some, m-stop, m-turn, m-tail_stop, m-tail_last, m-tail_turn, m-ahead, m-not_ahead, m-here, m-nt, f-none, f-tok, f-first, f-rest, f-left, f-right, f-some, f-turn, f-turns, f-tail_last, f-tail_turn, f-tail_turns, f-ahead, f-not_ahead, f-here, f-nt}
 use Rattle.rs_grammar.specs.Correct.{HasTreeIn, IsSyntaxRefusalIn, IsFaultIn, FitsCrateIn}
 use Rattle.rs_grammar.specs.Written.{FormsAgree, TextsAgree}
 use Rattle.rs_grammar.proofs.Soundness.{whole}

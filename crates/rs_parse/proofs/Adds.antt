@@ -1,17 +1,17 @@
 -- How a function that adds to a crate returns.
 use Rattle.std.proofs.Common.{◌≡◌, ℕ, Bool, true, false, List, [], ◌∷◌, ◌++◌, Some, None, Result, Ok, Err, refl, ◌∙◌, subst, append-nil}
 use Rattle.std.specs.Result.{IsErrAnd}
-use Rattle.rs_parse.specs.declared.fault.Fault.{Fault}
-use Rattle.rs_parse.specs.declared.fault.Fault.TheVariants as fault
+use Rattle.rs_reader.specs.declared.fault.Fault.{Fault}
+use Rattle.rs_reader.specs.declared.fault.Fault.TheVariants as fault
 use Rattle.rs_parse.specs.declared.part.Building.{Building}
 use Rattle.rs_grammar.specs.Lexeme.{Lexeme}
 use Rattle.rs_grammar.specs.declared.sited.Sited.{Sited}
-use Rattle.rs_grammar.specs.Grammar.{Shape, Val, Grammar, Rep, Nt, Item, Section}
+use Rattle.rs_grammar.specs.Grammar.{Shape, Val, Grammar, Rep, Section}
 use Rattle.rs_grammar.specs.Sets.{nullable, first, next_in}
 use Rattle.rs_grammar.specs.Parses.{Parses, r-stop, r-no_turn}
-use Rattle.rs_parse.specs.Reading.{Reading, Advances}
+use Rattle.rs_reader.specs.Reading.{Reading, Advances}
 use Rattle.rs_parse.specs.Building.{Adding, AddTurns, with_item, with_items, with_section, with_sections}
-use Rattle.rs_parse.proofs.Exits.{read, turns_none, turns_more}
+use Rattle.rs_reader.proofs.Exits.{read, turns_none, turns_more}
 
 same_on : (X Y : Type 0) (b : Bool) (x : X) (y : Y) (u v : List Lexeme) → Advances b (Ok x) u v → Advances b (Ok y) u v
 same_on X Y true x y u v h = h

@@ -7,15 +7,16 @@ use Rattle.rs_tree.specs.declared.tree.Expr.{Expr}
 use Rattle.rs_tree.specs.declared.tree.Stmt.{Stmt}
 use Rattle.rs_tree.specs.declared.tree.Stmt.TheVariants as stmt
 use Rattle.rs_parse.specs.declared.body.Turn.{Turn}
-use Rattle.rs_parse.specs.declared.fault.Fault.{Fault}
-use Rattle.rs_parse.specs.declared.fault.Fault.TheVariants.{Syntax, Memory}
+use Rattle.rs_reader.specs.declared.fault.Fault.{Fault}
+use Rattle.rs_reader.specs.declared.fault.Fault.TheVariants.{Syntax, Memory}
 use Rattle.rs_grammar.specs.Lexeme.{Lexeme}
 use Rattle.rs_grammar.specs.Grammar.{Shape, Val, Grammar, Tok, Seq, Tail, Nt, NameAssign, Body, Rest, Worded, Expression}
 use Rattle.rs_grammar.specs.Sets.{first, next_in, next_pair}
 use Rattle.rs_grammar.specs.Parses.{Parses, r-tok, r-nt, r-no_nt, r-seq, r-second, r-first, r-left, r-right, r-no_left, r-no_right, r-none, r-some, r-held, r-ahead, r-no_ahead, r-other_way, r-no_other_way, r-tail_no_last}
-use Rattle.rs_parse.specs.Reading.{Reading, ReadingAs}
-use Rattle.rs_parse.specs.Blocks.{BodyTurns, OneMore, ReadsOne, assignment, assigned}
-use Rattle.rs_parse.proofs.Exits.{failed, out_of_memory}
+use Rattle.rs_reader.specs.Reading.{Reading, ReadingAs}
+use Rattle.rs_parse.specs.Blocks.{BodyTurns, OneMore, ReadsOne, assignment, assigned, evaluation, evaluated}
+use Rattle.rs_reader.proofs.Exits.{failed, out_of_memory}
+use Rattle.rs_reader.proofs.Makes.{makes, makes_none, makes_lacks}
 
 -- a fault in the last part, where it begins
 pub tail_no_last : {s t : Shape} {c : Kind} {g : Grammar s} {h : Grammar t} {u v w : List Lexeme} {d : Lexeme}
@@ -97,3 +98,9 @@ passes_body v w e (Ok x) i f q = absurd i
 passes_body v w Syntax (Err Syntax) i f q = failed (q f)
 passes_body v w Memory (Err Syntax) i f q = absurd cc
 passes_body v w e (Err Memory) i f q = out_of_memory
+
+-- an expression and its `;`
+pub effect_of : {u v w : List Lexeme} {e : Expr} (r : Result Stmt Fault) → Reading (Nt Expression) u (Ok e) v → ReadingAs (Tok k.Semicolon) (λ _. stmt.Eval e) v r w → ReadingAs evaluation evaluated u r w
+effect_of {e} (Ok s) f a = makes {g = evaluation} {f = evaluated} (e, a.is.0) a.is.1 (r-seq f.is a.is.2)
+effect_of (Err Syntax) f a = makes_none (r-second f.is a.is)
+effect_of (Err Memory) f a = makes_lacks

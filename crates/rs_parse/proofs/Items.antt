@@ -1,11 +1,10 @@
 -- An item is read as it is seen from its first token.
-use Rattle.std.proofs.Common.{◌≡◌, ℕ, zero, suc, ◌-◌, ◌<◌, List, [], ◌∷◌, ◌++◌, length, Some, None, Result, Ok, Err, refl, sym, ap, ◌∙◌, subst, take, drop, arith, length-append}
-use Rattle.std.proofs.Math.Seq.{drop-append_seam}
-use Rattle.std.proofs.lemmas.List.{take-append-drop, drop-map, length-map}
+use Rattle.std.proofs.Common.{◌≡◌, ℕ, zero, suc, ◌-◌, ◌<◌, List, [], ◌∷◌, length, Some, None, Result, Ok, Err, sym, ap, ◌∙◌, subst, take, drop, arith}
+use Rattle.std.proofs.lemmas.List.{take-append-drop, length-map}
 use Rattle.rs_tree.specs.declared.place.At.{At}
 use Rattle.rs_tree.specs.declared.tree.Item as item
-use Rattle.rs_parse.specs.declared.fault.Fault.{Fault}
-use Rattle.rs_parse.specs.declared.fault.Fault.TheVariants as fault
+use Rattle.rs_reader.specs.declared.fault.Fault.{Fault}
+use Rattle.rs_reader.specs.declared.fault.Fault.TheVariants as fault
 use Rattle.rs_grammar.specs.Lexeme.{Lexeme, moved, seen, next_place, start_of}
 use Rattle.rs_grammar.specs.declared.sited.Sited.{Sited}
 use Rattle.rs_grammar.specs.Grammar.{Nt, Item, Definition, made}
@@ -14,8 +13,8 @@ use Rattle.rs_grammar.proofs.Lists.{some_same}
 use Rattle.rs_grammar.proofs.Seen.{seen_last}
 use Rattle.rs_grammar.proofs.Soundness.{read_matches, read_front}
 use Rattle.std.specs.Result.{IsErrAnd}
-use Rattle.rs_parse.specs.Reading.{Reading}
-use Rattle.rs_parse.proofs.Exits.{failed, out_of_memory, read_as}
+use Rattle.rs_reader.specs.Reading.{Reading}
+use Rattle.rs_reader.proofs.Exits.{failed, out_of_memory, read_as}
 
 pub nothing_there : {u : List Lexeme} → next_place u ≡ None → Parses _ (Nt Item) u None u
 nothing_there {u = []} e = r-no_nt {n = Item} r-here_end

@@ -1,10 +1,4 @@
-pub mod Steps
-pub mod Once
-pub mod Nested
-pub mod Exits
-pub mod Sighted
 pub mod Items
 pub mod Adds
 pub mod Reached
-pub mod Makes
 pub mod Blocks

@@ -1,9 +1,9 @@
 -- What a whole text was read as.
-use Rattle.std.proofs.Common.{◌≡◌, ℕ, List, [], ◌∷◌, ◌++◌, map, Some, None, Ok, Err, unwrap_or, refl, sym, ap, ◌∙◌, subst, append_assoc, append-nil}
+use Rattle.std.proofs.Common.{◌≡◌, ℕ, List, [], ◌∷◌, ◌++◌, map, Some, None, Ok, Err, unwrap_or, sym, ap, ◌∙◌, subst, append_assoc, append-nil}
 use Rattle.rs_tree.specs.declared.place.At.{At}
 use Rattle.rs_tree.specs.declared.token.Token.{Token}
-use Rattle.rs_parse.specs.declared.fault.Fault.{Fault}
-use Rattle.rs_parse.specs.declared.fault.Fault.TheVariants as fault
+use Rattle.rs_reader.specs.declared.fault.Fault.{Fault}
+use Rattle.rs_reader.specs.declared.fault.Fault.TheVariants as fault
 use Rattle.rs_parse.specs.declared.part.Building.{Building}
 use Rattle.rs_grammar.specs.Lexeme.{Lexeme, lexemes, next_place}
 use Rattle.rs_grammar.specs.declared.sited.Sited.{Sited}
@@ -11,7 +11,10 @@ use Rattle.rs_grammar.specs.Grammar.{Section, Module, Alone, Nt, Rep, Part}
 use Rattle.rs_grammar.specs.Parses.{Parses}
 use Rattle.rs_parse.specs.Building.{Adding, with_item, with_items, with_name, with_sections}
 use Rattle.rs_grammar.specs.Nesting.{IsShallow}
-use Rattle.rs_grammar.specs.Correct.{placed_in, name_in, modules_of, items_of, names_of, IsSyntaxFault}
+use Rattle.rs_grammar.specs.Correct.{placed_in, name_in, modules_of, items_of, names_of, IsSyntaxFault, IsSyntaxRefusal}
+use Rattle.rs_grammar.specs.declared.fault.SyntaxFault.{SyntaxFault}
+use Rattle.rs_grammar.specs.declared.fault.SyntaxFault.TheVariants as refusal
+use Rattle.rs_reader.specs.Ends.{IsFinished}
 use Rattle.rs_parse.specs.Whole.{HasSections}
 use Rattle.rs_grammar.proofs.Lists.{some_same}
 use Rattle.rs_grammar.proofs.Answer.{sections_fit, sections_only, fault_within, fault_after}
@@ -36,16 +39,12 @@ sections_added b (Alone s ∷ ps) =
     sections_added (with_item [] b s) ps
     ∙ (λ i. record { modules = b.modules ++ modules_of ps; items = append_assoc b.items (placed_in [] s ∷ []) (items_of ps) i; names = append_assoc b.names (name_in [] s ∷ []) (names_of ps) i })
 
-at_end : (v : List Lexeme) → next_place v ≡ None → v ≡ []
-at_end [] e = refl
-at_end (t ∷ v) e = absurd cc
-
 module _ (ts : List Token) (u v : List Lexeme) (start : u ≡ lexemes ts) (before after : Building) where
-  pub has_sections : before ≡ record { modules = []; items = []; names = [] } → next_place v ≡ None → Adding (Rep (Nt Part)) with_sections u (Ok tt) v before after → HasSections ts after
+  pub has_sections : before ≡ record { modules = []; items = []; names = [] } → v ≡ [] → Adding (Rep (Nt Part)) with_sections u (Ok tt) v before after → HasSections ts after
   has_sections empty e a =
       let x = a.is.0 in
       let r : Parses _ (Rep (Nt Part)) (lexemes ts) (Some x) [] =
-      subst (λ (w : List Lexeme). Parses _ (Rep (Nt Part)) w (Some x) []) start (subst (λ (w : List Lexeme). Parses _ (Rep (Nt Part)) u (Some x) w) (at_end v e) a.is.1) in
+      subst (λ (w : List Lexeme). Parses _ (Rep (Nt Part)) w (Some x) []) start (subst (λ (w : List Lexeme). Parses _ (Rep (Nt Part)) u (Some x) w) e a.is.1) in
       let built : after ≡ record { modules = modules_of x; items = items_of x; names = names_of x } = a.is.2 ∙ ap (λ b. with_sections b x) empty ∙ sections_added _ x in
       record {
         sections = x;
@@ -56,12 +55,18 @@ module _ (ts : List Token) (u v : List Lexeme) (start : u ≡ lexemes ts) (befor
         names = ap (λ (b : Building). b.names) built;
       }
 
-  pub fault_left : (end at : At) → IsShallow (lexemes ts) → next_place v ≡ Some at → Adding (Rep (Nt Part)) with_sections u (Ok tt) v before after → IsSyntaxFault ts end at
+  fault_left : (end at : At) → IsShallow (lexemes ts) → next_place v ≡ Some at → Adding (Rep (Nt Part)) with_sections u (Ok tt) v before after → IsSyntaxFault ts end at
   fault_left end at shallow e a = go v e a.is.1
     where
       go : (w : List Lexeme) → next_place w ≡ Some at → Parses _ (Rep (Nt Part)) u (Some a.is.0) w → IsSyntaxFault ts end at
       go [] e r = absurd cc
       go (t ∷ w) e r = let f = fault_after r in record { shallow = shallow; before = f.0; rest = t ∷ w; parts = sym start ∙ f.1; fault = f.2; place = sym (some_same e) }
+
+  pub refused_left : (end : At) (f : SyntaxFault) → IsShallow (lexemes ts) → IsFinished v (Err f) → Adding (Rep (Nt Part)) with_sections u (Ok tt) v before after → IsSyntaxRefusal ts end f
+  refused_left end (refusal.Syntax at) shallow e a = fault_left end at shallow e a
+  refused_left end (refusal.Nesting at) shallow e a = absurd e
+  refused_left end (refusal.Twice at name) shallow e a = absurd e
+  refused_left end refusal.Memory shallow e a = absurd e
 
   pub fault_here : (end at : At) → IsShallow (lexemes ts) → at ≡ unwrap_or (next_place v) end → (d : Fault) → d ≡ fault.Syntax → Adding (Rep (Nt Part)) with_sections u (Err d) v before after → IsSyntaxFault ts end at
   fault_here end at shallow e fault.Memory is a = absurd cc

@@ -4,8 +4,8 @@ use Rattle.std.proofs.Common.{inl, inr}
 use Rattle.rs_tree.specs.declared.kind.Kind.TheVariants as k
 use Rattle.rs_tree.specs.declared.tree.Expr.{Expr}
 use Rattle.rs_tree.specs.declared.tree.Stmt.{Stmt}
-use Rattle.rs_parse.specs.declared.fault.Fault.{Fault}
-use Rattle.rs_parse.specs.declared.fault.Fault.TheVariants.{Syntax, Memory}
+use Rattle.rs_reader.specs.declared.fault.Fault.{Fault}
+use Rattle.rs_reader.specs.declared.fault.Fault.TheVariants.{Syntax, Memory}
 use Rattle.rs_parse.specs.declared.body.Turn.{Turn}
 use Rattle.rs_parse.specs.declared.body.Turn.TheVariants.{Whole, Last}
 use Rattle.rs_grammar.specs.Lexeme.{Lexeme}

@@ -1,15 +1,14 @@
 -- A crate that grows while its text is read.
 use Rattle.std.specs.Prelude.{◌≡◌, ℕ, List, [], ◌∷◌, ◌++◌, Some, None, Result, Ok, Err}
 use Rattle.rs_tree.specs.declared.place.At.{At}
-use Rattle.rs_parse.specs.declared.fault.Fault.{Fault}
-use Rattle.rs_parse.specs.declared.fault.Fault.TheVariants as fault
+use Rattle.rs_reader.specs.declared.fault.Fault.{Fault}
+use Rattle.rs_reader.specs.declared.fault.Fault.TheVariants as fault
 use Rattle.rs_parse.specs.declared.part.Building.{Building}
 use Rattle.rs_grammar.specs.declared.sited.Sited.{Sited}
-use Rattle.rs_grammar.specs.declared.named.Named.{Named}
 use Rattle.rs_grammar.specs.Correct.{placed_in, name_in}
 use Rattle.rs_grammar.specs.Lexeme.{Lexeme}
-use Rattle.rs_grammar.specs.Grammar.{Shape, Val, Grammar, Section, Module, Alone, Nt, Item}
-use Rattle.rs_parse.specs.Reading.{Advances, Reading, Turns}
+use Rattle.rs_grammar.specs.Grammar.{Shape, Val, Grammar, Section, Module, Alone}
+use Rattle.rs_reader.specs.Reading.{Advances, Turns}
 use Rattle.rs_grammar.specs.Parses.{Parses}
 use Rattle.rs_grammar.specs.Sets.{nullable}
 

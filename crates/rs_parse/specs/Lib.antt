@@ -1,4 +1,3 @@
-pub mod Reading
 pub mod Blocks
 pub mod Building
 pub mod Whole

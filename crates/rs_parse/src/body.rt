@@ -2,12 +2,11 @@
 
 ghost use Rattle.rs_parse.specs.Blocks.{ReadsOne};
 ghost use Rattle.rs_grammar.specs.Grammar.{Body, Braced, Nt};
-ghost use Rattle.rs_parse.specs.Reading.{Reading};
+ghost use Rattle.rs_reader.specs.Reading.{Reading};
 
 use crate::expression::expression;
-use crate::fault::Fault;
 use crate::statement::{assignment, worded};
-use crate::tokens::Tokens;
+use rs_reader::{Fault, Tokens};
 use rs_tree::{Expr, Kind, Stmt};
 use sqlite_items::Items;
 use std::alloc::Global;

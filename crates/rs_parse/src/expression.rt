@@ -1,16 +1,12 @@
 //! Expressions: a function for each form.
 
-ghost use Rattle.std.specs.Prelude.{◌≡◌};
 ghost use Rattle.rs_grammar.specs.Grammar.{AndNext, Args, Arguments, Comparison, Conjunction, Expression, Group, Nt, Opt, OrNext, OtherArgs, Primary, Product, ProductNext, Rep, Sum, SumNext, Unary, Use};
-ghost use Rattle.rs_parse.specs.Reading.{Reading};
+ghost use Rattle.rs_reader.specs.Reading.{Reading};
 
-use crate::fault::Fault;
-use crate::forms::{
-    all_of, and_of, arith_of, call_of, compared, grouped, or_none, or_of, path_of, signed,
+use rs_reader::{
+    Fault, Tokens, all_of, and_of, arith_of, call_of, cmp_sign, compared, grouped, literal,
+    or_none, or_of, path_of, product_sign, route, signed, sum_sign, unary_sign,
 };
-use crate::route::route;
-use crate::signs::{cmp_sign, literal, product_sign, sum_sign, unary_sign};
-use crate::tokens::Tokens;
 use rs_tree::{ArithOp, Expr, Kind};
 use sqlite_items::Items;
 use std::alloc::Global;

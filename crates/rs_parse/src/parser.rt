@@ -4,16 +4,11 @@ ghost use Rattle.std.specs.Prelude.{◌≡◌, IfOk, IfErr};
 ghost use Rattle.rs_grammar.specs.Lexeme.{lexemes, token_kinds};
 ghost use Rattle.rs_grammar.specs.Nesting.{IsShallow};
 ghost use Rattle.rs_grammar.specs.Correct.{HasTree, IsSyntaxRefusal};
-ghost use Rattle.rs_parse.specs.Whole.{HasSections, HasNames};
+ghost use Rattle.rs_parse.specs.Whole.{HasSections};
 
-use crate::fault::Fault;
-use crate::lexeme::kinds_of;
-use crate::nesting::first_too_deep;
 use crate::part::{Building, parts};
-use crate::tokens::Whole;
-use crate::twice::first_twice;
-use inc_base::Copied;
 use rs_grammar::SyntaxFault;
+use rs_reader::{Fault, Whole, check_names, finish, first_too_deep, kinds_of};
 use rs_tree::{At, Crate, Kind, Token};
 use std::alloc::Global;
 
@@ -32,7 +27,7 @@ pub fn parse(alloc: Global, tokens: &[Token], end: At) -> Result<Crate, SyntaxFa
         return Err(SyntaxFault::Nesting(at));
     }
     let found = read_all(alloc, tokens, &kinds, end)?;
-    check_names(alloc, &found)?;
+    check_names(alloc, found.names.as_slice())?;
     let Building { modules, items, .. } = found;
     Ok(Crate { modules, items })
 }
@@ -54,20 +49,13 @@ fn read_all(
     match parts(alloc, &mut rest, &mut found) {
         Ok(()) => {}
         Err(Fault::Memory) => return Err(SyntaxFault::Memory),
-        Err(Fault::Syntax) => return Err(SyntaxFault::Syntax(rest.at().unwrap_or(end))),
+        Err(Fault::Syntax) => return Err(SyntaxFault::Syntax(rest.fault_at(end))),
     }
-    match rest.at() {
-        Some(at) => Err(SyntaxFault::Syntax(at)),
-        None => Ok(found),
-    }
-}
-
-/// Whether each name is defined once.
-fn check_names(alloc: Global, found: &Building) -> Result<(), SyntaxFault>
-    ensures { HasNames found.now.names result }
-{
-    match first_twice(alloc, found.names.as_slice())? {
-        Some(named) => Err(SyntaxFault::Twice(named.at, named.name.copy()?)),
-        None => Ok(()),
+    match finish(&rest) {
+        Ok(()) => Ok(found),
+        Err(fault) => {
+            drop(found);
+            Err(fault)
+        }
     }
 }

@@ -1,17 +1,16 @@
 //! A text: its modules and items.
 
-ghost use Rattle.std.specs.Prelude.{◌≡◌, [], IfOk, OnOk, Option};
+ghost use Rattle.std.specs.Prelude.{◌≡◌, [], IfOk, OnOk};
 ghost use Rattle.rs_grammar.specs.Lexeme.{start_of};
 ghost use Rattle.rs_grammar.specs.Grammar as rule;
 ghost use Rattle.rs_grammar.specs.Grammar.{Contents, Nt, Part, Rep, made};
-ghost use Rattle.rs_parse.specs.Reading.{Reading};
+ghost use Rattle.rs_reader.specs.Reading.{Reading};
 ghost use Rattle.rs_parse.specs.Building.{Adding, with_item, with_items, with_name, with_section, with_sections};
 
-use crate::fault::Fault;
 use crate::item::definition;
-use crate::tokens::{Tokens, Whole};
 use inc_base::{Bytes, Copied, List, Memory};
 use rs_grammar::{Named, Sited};
+use rs_reader::{Fault, Tokens, Whole};
 use rs_tree::{At, Item, Kind, Placed};
 use std::alloc::Global;
 

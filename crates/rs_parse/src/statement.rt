@@ -6,15 +6,12 @@ ghost use Rattle.std.specs.Prelude.{◌≡◌, IfOk};
 ghost use Rattle.rs_parse.specs.Blocks.{assignment, assigned, evaluation, evaluated};
 ghost use Rattle.rs_grammar.specs.Lexeme.{Lexeme};
 ghost use Rattle.rs_grammar.specs.Grammar.{Arm, Binding, Block, Choice, Loop, Nt, OtherArms, Printing, Rep, Returning, Statement, Worded, made};
-ghost use Rattle.rs_parse.specs.Reading.{Reading, ReadingAs};
+ghost use Rattle.rs_reader.specs.Reading.{Reading, ReadingAs};
 
 use crate::expression::expression;
-use crate::fault::Fault;
-use crate::lexeme::Lexeme;
-use crate::optional::{optional_expression, optional_token};
-use crate::tokens::Tokens;
-use crate::typing::optional_typing;
+use crate::optional::optional_expression;
 use inc_base::Memory;
+use rs_reader::{Fault, Lexeme, Tokens, effect, optional_token, optional_typing};
 use rs_tree::{Expr, Kind, Stmt, Typ};
 use sqlite_items::Items;
 use std::alloc::{AllocError, Global};
@@ -102,8 +99,7 @@ fn evaluation(alloc: Global, tokens: &mut Tokens<'_>) -> Result<Stmt, Fault>
     ensures { ReadingAs evaluation evaluated tokens.old result tokens.new }
 {
     let unused = expression(alloc, tokens)?;
-    tokens.expect(Kind::Semicolon)?;
-    Ok(Stmt::Eval(unused))
+    effect(unused, tokens)
 }
 
 /// A statement that begins with a word of its own.

@@ -1,7 +1,7 @@
 use Rattle.std.proofs.Common.{sym}
 use Rattle.rs_grammar.specs.Grammar.{Body}
 use Rattle.rs_grammar.specs.Parses.{r-no_nt, r-held}
-use Rattle.rs_parse.proofs.Exits.{read}
+use Rattle.rs_reader.proofs.Exits.{read}
 use Rattle.rs_parse.proofs.Blocks.{body_more, body_last, body_stops, passes_body}
 use Rattle.rs_parse.proofs.body.body.Goals as goal
 

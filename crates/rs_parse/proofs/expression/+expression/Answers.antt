@@ -2,7 +2,7 @@ use Rattle.std.proofs.Common.{[], ◌++◌, Some, None, inl, inr, sym, append-ni
 use Rattle.rs_tree.specs.Kinds.{code}
 use Rattle.rs_grammar.specs.Grammar.{AndNext, Args, Arguments, Compared, Comparison, Conjunction, Expression, Group, OrNext, OtherArgs, Primary, Product, ProductNext, Sum, SumNext, Unary, Use}
 use Rattle.rs_grammar.specs.Parses.{r-nt, r-no_nt, r-seq, r-first, r-second, r-left, r-right, r-no_left, r-no_right, r-none, r-some, r-held, r-stop, r-no_turn, r-tail_stop, r-empty}
-use Rattle.rs_parse.proofs.Exits.{passes, read, read_as, turns_more, tail_more, tail_last, tail_no_turn}
+use Rattle.rs_reader.proofs.Exits.{passes, read, read_as, turns_more, tail_more, tail_last, tail_no_turn}
 use Rattle.rs_parse.proofs.expression.+expression.Goals as goal
 
 pub expression-returns-in_err-first : goal.expression-returns-in_err-first

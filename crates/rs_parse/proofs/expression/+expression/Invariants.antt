@@ -1,7 +1,7 @@
 use Rattle.std.proofs.Common.{◌+◌, ◌*◌, length}
 use Rattle.rs_grammar.specs.Grammar.{Nt, AndNext, Empty, Expression, OrNext, ProductNext, SumNext}
 use Rattle.rs_tree.specs.declared.kind.Kind.TheVariants as k
-use Rattle.rs_parse.specs.Reading.{Turns, TailTurns}
+use Rattle.rs_reader.specs.Reading.{Turns, TailTurns}
 use Rattle.rs_parse.proofs.expression.+expression.Given as goal
 
 abbrev pub decreases-expression : goal.decreases-expression

@@ -1,9 +1,9 @@
 use Rattle.std.proofs.Common.{sym, inl, inr}
 use Rattle.rs_grammar.specs.Grammar.{Nt, Definition}
 use Rattle.rs_grammar.specs.Parses.{r-nt, r-no_nt, r-seq, r-second, r-left, r-right, r-no_left, r-no_right, r-ahead, r-no_ahead, r-other_way, r-no_other_way}
-use Rattle.rs_parse.specs.Reading.{Reading}
-use Rattle.rs_parse.proofs.Exits.{hands, as_is}
-use Rattle.rs_parse.proofs.Makes.{hands_made}
+use Rattle.rs_reader.specs.Reading.{Reading}
+use Rattle.rs_reader.proofs.Exits.{hands, as_is}
+use Rattle.rs_reader.proofs.Makes.{hands_made}
 use Rattle.rs_parse.specs.Blocks.{public_constant}
 use Rattle.rs_grammar.specs.Grammar.{made}
 use Rattle.rs_parse.proofs.item.definition.Goals as goal

@@ -1,6 +1,6 @@
 use Rattle.rs_grammar.specs.Grammar.{Function}
 use Rattle.rs_grammar.specs.Parses.{r-nt, r-no_nt, r-seq, r-first, r-second}
-use Rattle.rs_parse.proofs.Exits.{passes, read_as}
+use Rattle.rs_reader.proofs.Exits.{passes, read_as}
 use Rattle.rs_parse.proofs.item.function.Goals as goal
 
 pub returns-in_err-marker : goal.returns-in_err-marker

@@ -1,6 +1,6 @@
 use Rattle.std.proofs.Common.{sym}
 use Rattle.rs_grammar.specs.Parses.{r-none, r-some, r-held}
-use Rattle.rs_parse.proofs.Exits.{passes, read}
+use Rattle.rs_reader.proofs.Exits.{passes, read}
 use Rattle.rs_tree.specs.Kinds.{code}
 use Rattle.rs_parse.proofs.item.optional_marker.Goals as goal
 

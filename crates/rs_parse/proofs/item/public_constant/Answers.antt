@@ -1,7 +1,7 @@
 use Rattle.std.proofs.Common.{inl}
 use Rattle.rs_grammar.specs.Grammar.{Definition}
 use Rattle.rs_grammar.specs.Parses.{r-seq, r-first, r-second}
-use Rattle.rs_parse.proofs.Makes.{makes, passes_as}
+use Rattle.rs_reader.proofs.Makes.{makes, passes_as}
 use Rattle.rs_parse.specs.Blocks.{public_constant}
 use Rattle.rs_grammar.specs.Grammar.{made}
 use Rattle.rs_parse.proofs.item.public_constant.Goals as goal

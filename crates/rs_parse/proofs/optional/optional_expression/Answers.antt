@@ -1,6 +1,6 @@
 use Rattle.std.proofs.Common.{sym}
 use Rattle.rs_grammar.specs.Parses.{r-none, r-some, r-held}
-use Rattle.rs_parse.proofs.Exits.{passes, read}
+use Rattle.rs_reader.proofs.Exits.{passes, read}
 use Rattle.rs_parse.proofs.optional.optional_expression.Goals as goal
 
 pub returns-then-not-sees_expression : goal.returns-then-not-sees_expression

@@ -1,5 +1,5 @@
 use Rattle.std.proofs.Common.{sym, ◌∙◌}
-use Rattle.rs_parse.proofs.Exits.{failed}
+use Rattle.rs_reader.proofs.Exits.{failed}
 use Rattle.rs_parse.proofs.Items.{nothing_there, item_passes, item_starts, item_returns}
 use Rattle.rs_parse.proofs.part.item.Goals as goal
 

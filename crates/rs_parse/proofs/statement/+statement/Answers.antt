@@ -1,9 +1,9 @@
 use Rattle.std.proofs.Common.{[], ◌++◌, Some, None, sym, ap, append-nil, arith, inl, inr}
 use Rattle.rs_grammar.specs.Grammar.{Nt, Worded, Statement, Loop, Choice, Arm, OtherArms, Block}
 use Rattle.rs_grammar.specs.Parses.{r-nt, r-no_nt, r-seq, r-first, r-second, r-left, r-right, r-no_left, r-no_right, r-stop, r-no_turn, r-tail_stop, r-ahead, r-no_ahead, r-other_way, r-no_other_way}
-use Rattle.rs_parse.specs.Reading.{Reading}
-use Rattle.rs_parse.proofs.Exits.{passes, read, read_as, hands, as_is, turns_more, tail_more, tail_last, tail_no_turn}
-use Rattle.rs_parse.proofs.Makes.{hands_made}
+use Rattle.rs_reader.specs.Reading.{Reading}
+use Rattle.rs_reader.proofs.Exits.{passes, read, read_as, hands, as_is, turns_more, tail_more, tail_last, tail_no_turn}
+use Rattle.rs_reader.proofs.Makes.{hands_made}
 use Rattle.rs_tree.specs.Kinds.{code}
 use Rattle.rs_parse.specs.Blocks.{assignment, assigned, evaluation, evaluated}
 use Rattle.rs_parse.proofs.Blocks.{tail_no_last}

@@ -1,7 +1,7 @@
 use Rattle.std.proofs.Common.{◌+◌, ◌*◌, length}
 use Rattle.rs_tree.specs.declared.kind.Kind.TheVariants as k
 use Rattle.rs_grammar.specs.Grammar.{Nt, Arm, Block, Statement}
-use Rattle.rs_parse.specs.Reading.{Turns, TailTurns}
+use Rattle.rs_reader.specs.Reading.{Turns, TailTurns}
 use Rattle.rs_parse.proofs.statement.+statement.Given as goal
 
 abbrev pub decreases-statements : goal.decreases-statements

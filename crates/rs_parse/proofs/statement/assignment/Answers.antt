@@ -1,5 +1,5 @@
 use Rattle.rs_grammar.specs.Parses.{r-seq, r-first, r-second}
-use Rattle.rs_parse.proofs.Makes.{makes, passes_as}
+use Rattle.rs_reader.proofs.Makes.{makes, passes_as}
 use Rattle.rs_parse.specs.Blocks.{assignment, assigned}
 use Rattle.rs_parse.proofs.statement.assignment.Goals as goal
 

@@ -1,6 +1,6 @@
 use Rattle.rs_grammar.specs.Grammar.{Printing}
 use Rattle.rs_grammar.specs.Parses.{r-nt, r-no_nt, r-seq, r-first, r-second}
-use Rattle.rs_parse.proofs.Exits.{passes, read}
+use Rattle.rs_reader.proofs.Exits.{passes, read}
 use Rattle.rs_parse.proofs.statement.printing.Goals as goal
 
 pub returns-in_err-expect : goal.returns-in_err-expect

@@ -1,7 +1,7 @@
 use Rattle.std.proofs.Common.{ap}
 use Rattle.rs_grammar.specs.Grammar.{Returning}
 use Rattle.rs_grammar.specs.Parses.{r-nt, r-no_nt, r-seq, r-first, r-second}
-use Rattle.rs_parse.proofs.Exits.{passes, read_as}
+use Rattle.rs_reader.proofs.Exits.{passes, read_as}
 use Rattle.rs_tree.specs.declared.tree.Stmt.TheVariants as stmt
 use Rattle.rs_parse.proofs.statement.returning.Goals as goal
 

@@ -1,5 +1,0 @@
-use Rattle.rs_parse.proofs.Steps.{refused}
-use Rattle.rs_parse.proofs.tokens.Tokens.expect.Goals as goal
-
-pub returns-then-not-sees : goal.returns-then-not-sees
-returns-then-not-sees c = refused c.args.kind c.args.self.now c.if-not-sees.ensures

@@ -1,0 +1,14 @@
+use Rattle.std.proofs.Common.{sym, inl, inr}
+use Rattle.rs_grammar.specs.Grammar.{TypeName}
+use Rattle.rs_grammar.specs.Parses.{r-nt, r-no_nt, r-left, r-right, r-no_right}
+use Rattle.rs_reader.proofs.Exits.{passes, read}
+use Rattle.rs_reader.proofs.typing.type_name.Goals as goal
+
+pub returns-then-sees : goal.returns-then-sees
+returns-then-sees c = read (r-nt {n = TypeName} {x = inl c.take.result} (r-left (sym c.if-sees.ensures) c.take.ensures.is))
+
+pub returns-in_err-expect : goal.returns-in_err-expect
+returns-in_err-expect c = passes c.from_residual.result c.from_residual.ensures.1 c.in_err-expect.ensures (λ r. r-no_nt {n = TypeName} (r-no_right (sym c.if-sees.ensures) r))
+
+pub returns : goal.returns
+returns c = read (r-nt {n = TypeName} {x = inr c.in_ok-expect.field-0} (r-right (sym c.if-sees.ensures) c.in_ok-expect.ensures.is))

@@ -17,21 +17,6 @@ nine (x0 ∷ x1 ∷ x2 ∷ x3 ∷ x4 ∷ x5 ∷ []) d len = absurd (omega arith)
 nine (x0 ∷ x1 ∷ x2 ∷ x3 ∷ x4 ∷ x5 ∷ x6 ∷ []) d len = absurd (omega arith)
 nine (x0 ∷ x1 ∷ x2 ∷ x3 ∷ x4 ∷ x5 ∷ x6 ∷ x7 ∷ []) d len = absurd (omega arith)
 
--- other options are refused
-pub refused_options : (words : List (List ℕ)) (a b c d e f g h i : List ℕ) → words ≡ a ∷ b ∷ c ∷ d ∷ e ∷ f ∷ g ∷ h ∷ i ∷ [] → (¬ AreOptions a b d f h) → AreRefused words
-refused_options words a b c d e f g h i is apart krate built =
-    let same : a ∷ b ∷ c ∷ d ∷ e ∷ f ∷ g ∷ h ∷ i ∷ [] ≡ spelled krate built.root built.src built.image = sym is ∙ built.build.spelled_is in
-    apart (record { command_is = cc; krate_is = cc; root_is = cc; src_is = cc; image_is = cc })
-
--- other places are refused
-pub refused_values : (words : List (List ℕ)) (a b c d e f g h i : List ℕ) → words ≡ a ∷ b ∷ c ∷ d ∷ e ∷ f ∷ g ∷ h ∷ i ∷ [] → (¬ AreValues e g i) → AreRefused words
-refused_values words a b c d e f g h i is apart krate built =
-    let same : a ∷ b ∷ c ∷ d ∷ e ∷ f ∷ g ∷ h ∷ i ∷ [] ≡ spelled krate built.root built.src built.image = sym is ∙ built.build.spelled_is in
-    let e_is : built.root ≡ e = cc in
-    let g_is : built.src ≡ g = cc in
-    let i_is : built.image ≡ i = cc in
-    apart (subst (λ root. AreValues root g i) e_is (subst (λ src. AreValues built.root src i) g_is (subst (λ image. AreValues built.root built.src image) i_is built.build.places)))
-
 -- with the options of a build, nine words are spelled as those of one
 pub spelled_by : (words : List (List ℕ)) (a b c d e f g h i : List ℕ) → words ≡ a ∷ b ∷ c ∷ d ∷ e ∷ f ∷ g ∷ h ∷ i ∷ [] → AreOptions a b d f h → words ≡ spelled c e g i
 spelled_by words a b c d e f g h i is options = cc (is, options.command_is, options.krate_is, options.root_is, options.src_is, options.image_is)

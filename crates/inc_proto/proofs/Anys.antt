@@ -37,10 +37,14 @@ none_more P xs i d within before off any =
 
 -- ---- The same for a list as it stands.
 
-in_left : {X : Type 0} (xs ys : List X) (x : X) → IsIn xs x → IsIn (xs ++ ys) x
+pub in_left : {X : Type 0} (xs ys : List X) (x : X) → IsIn xs x → IsIn (xs ++ ys) x
 in_left [] ys x is = absurd is
 in_left (y ∷ xs) ys x (inl is) = inl is
 in_left (y ∷ xs) ys x (inr is) = inr (in_left xs ys x is)
+
+pub in_end : {X : Type 0} (xs : List X) (y x : X) → y ≡ x → IsIn (xs ++ y ∷ []) x
+in_end [] y x is = inl is
+in_end (z ∷ xs) y x is = inr (in_end xs y x is)
 
 pub in_at : {X : Type 0} (xs : List X) (i : ℕ) (d x : X) → i < length xs → get_or xs i d ≡ x → IsIn xs x
 in_at [] i d x within is = absurd (omega arith)

@@ -1,13 +1,13 @@
 -- What a ground keeps, by each of its events.
 use Rattle.std.specs.Prelude.{◌≡◌, ◌≢◌, ◌⊎◌, ◌==◌, ◌<◌, ◌≤◌, ◌+◌, ◌-◌, ◌^◌, reverse, ◌++◌, ℕ, zero, suc, List, [], ◌∷◌, length, Bool, true, false, cond, refl, Option, Some, None, IsSome, slice_get, slice_set, unwrap_or}
-use Rattle.std.proofs.Common.{ap, sym, ◌∙◌, subst, inl, inr, eq-eqb, arith, length-append, get_or, lit<}
+use Rattle.std.proofs.Common.{ap, sym, ◌∙◌, subst, inl, inr, eq-eqb, arith, length-append, get_or}
 use Rattle.std.proofs.lemmas.Bool.{ne_eqb}
 use Rattle.std.proofs.lemmas.Bool.Decides.{eqb_tells}
 use Rattle.std.proofs.lemmas.Option.{slice_get_within, slice_get_past, unwrap_or-slice_get}
 use Rattle.std.proofs.lemmas.List.Sums.{sum_by-append, sum_by-set}
 use Rattle.std.proofs.lemmas.List.{length-set}
 use Rattle.inc_base.specs.declared.job.Job.{Job}
-use Rattle.inc_fs.specs.State.{State, start, end_of}
+use Rattle.inc_fs.specs.State.{State, end_of}
 use Rattle.inc_fs.specs.Step.{Step}
 use Rattle.inc_fs.specs.declared.op.Op.{Op}
 use Rattle.inc_fs.specs.declared.op.Op.TheVariants.{Draw}
@@ -120,10 +120,6 @@ sighted_more step (Some job) steps its seen is = ap more is
     more : Option Sight → Option Sight
     more None = None
     more (Some sight) = Some (record { job = sight.job; steps = step ∷ sight.steps })
-
--- nothing happened
-pub kept_new : (files : Files) → IsKept files [] 0 start [] 0
-kept_new files = record { leads = refl; allowed = tt; numbered = refl; fits = λ who. (refl, refl); running_is = refl; counted = refl; room_is = refl; few = lit< tt }
 
 -- a session began
 pub kept_began : (files : Files) (h : List Event) (room : ℕ) (F : State) (ss : List Enrolled) (running : ℕ) (job : Job) → length ss + 1 < 2 ^ 32 → IsKept files h room F ss running

@@ -15,10 +15,10 @@ use Rattle.inc_names.specs.Entries.{lock_text, working_text, final_text, IsSessi
 use Rattle.inc_names.specs.EntryLaws.{same_lock_text, same_working_text, same_final_name}
 use Rattle.inc_wire.specs.Forms.{job_hash_of}
 use Rattle.inc_proto.specs.Clears.{IsClearLook, HasClearLook}
-use Rattle.inc_proto.specs.Asked.{IsNotOut, HasNewer, HoldsBoth, HasWanted}
+use Rattle.inc_proto.specs.Asked.{HasNewer, HoldsBoth, HasWanted}
 use Rattle.inc_proto.specs.Events.{Steps}
 use Rattle.inc_proto.specs.Files.{Files}
-use Rattle.inc_proto.specs.Permits.{IsHash, IsOn, IsOthers, HasNoDir, HoldsAlone, IsPermitted, MayMakeLock, MayMakeDirectory, MayCreate, MayLink, MayClearOwn, MayClearOthers, MayPublish, MayRetire, MayRemoveOwn, MayRemoveOthers}
+use Rattle.inc_proto.specs.Permits.{IsHash, IsOn, IsNotOut, IsOthers, HasNoDir, HoldsAlone, IsPermitted, MayMakeLock, MayMakeDirectory, MayCreate, MayLink, MayClearOwn, MayClearOthers, MayPublish, MayRetire, MayRemoveOwn, MayRemoveOthers}
 use Rattle.inc_proto.specs.Sought.{IsOnBy, Holds}
 use Rattle.inc_proto.specs.Views.{name, own, Dir, dir, Opening, opening, alone, HasAny, HasTried, HasTriedDir, HasLooked, HasSeenBoth, HasListed, HasDone, IsStanding, IsLook, IsDone, left_after}
 use Rattle.inc_proto.specs.Views.Dir.{Unmade, Removed}

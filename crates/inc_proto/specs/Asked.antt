@@ -1,5 +1,5 @@
 -- Parts of the permissions that are asked of a session's own steps.
-use Rattle.std.specs.Prelude.{◌≡◌, ◌≢◌, ℕ, List, Some}
+use Rattle.std.specs.Prelude.{◌≡◌, ℕ, List, Some}
 use Rattle.inc_base.specs.declared.job.Job.{Job}
 use Rattle.inc_fs.specs.Paths.{Text}
 use Rattle.inc_names.specs.declared.session.SessionName.{SessionName}
@@ -11,11 +11,7 @@ use Rattle.inc_proto.specs.Files.{Files, IsSet}
 use Rattle.inc_proto.specs.Permits.{IsHash, complete}
 use Rattle.inc_proto.specs.Sought.{Holds}
 use Rattle.inc_proto.specs.Views.{Dir, HasLooked, HasSeenBoth}
-use Rattle.inc_proto.specs.Views.Dir.{Stands, Published}
-
--- the directory isn't one of n that it published
-abbrev pub IsNotOut : Text → SessionName → Dir → Type 0
-IsNotOut krate n d = (hash : ℕ) (files : List (Text × Known)) → IsHash hash → d ≢ Published krate (final_text n hash) files
+use Rattle.inc_proto.specs.Views.Dir.{Stands}
 
 -- a `Look` lists a finalised directory newer than n's
 abbrev pub HasNewer : Text → SessionName → Steps → Type 0

@@ -13,6 +13,7 @@ pub mod Finals
 pub mod OwnDirs
 pub mod Clears
 pub mod Sought
+pub mod Indexes
 pub mod Asked
 pub mod Seen
 pub mod Grounds

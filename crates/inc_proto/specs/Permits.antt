@@ -16,7 +16,7 @@ use Rattle.inc_proto.specs.Events.{Steps}
 use Rattle.inc_proto.specs.Files.{Files, IsSet}
 use Rattle.inc_proto.specs.declared.own.OwnLock.TheVariants.{Locked}
 use Rattle.inc_proto.specs.declared.own.Known.{Known}
-use Rattle.inc_proto.specs.Views.{name, Opening, opening, since, alone, own, dir, HasTried, HasTriedDir, HasLooked, HasSeenBoth, HasListed, HasDone, IsStanding, left_after}
+use Rattle.inc_proto.specs.Views.{name, Dir, Opening, opening, since, alone, own, dir, HasTried, HasTriedDir, HasLooked, HasSeenBoth, HasListed, HasDone, IsStanding, left_after}
 use Rattle.inc_proto.specs.Views.Opening.{Made, Opened}
 use Rattle.inc_proto.specs.Views.Dir.{Unmade, Stands, Removed, Published}
 
@@ -49,9 +49,13 @@ HoldsAlone krate n steps h after = IsOn krate (lock_text n) (opening h steps) ×
 abbrev pub HoldsOpened : Text → SessionName → Steps → ℕ → Steps → Type 0
 HoldsOpened krate n steps h after = (opening h steps ≡ Some (Opened krate (lock_text n))) × (since h steps ≡ Some after)
 
+-- the directory isn't one of n that it published
+abbrev pub IsNotOut : Text → SessionName → Dir → Type 0
+IsNotOut krate n d = (hash : ℕ) (files : List (Text × Known)) → IsHash hash → d ≢ Published krate (final_text n hash) files
+
 -- the directory of that name isn't one that it published itself
 abbrev pub IsOthers : Text → SessionName → Steps → Type 0
-IsOthers krate n steps = (hash : ℕ) (files : List (Text × Known)) → IsHash hash → dir steps ≢ Published krate (final_text n hash) files
+IsOthers krate n steps = IsNotOut krate n (dir steps)
 
 -- no directory of that name is among these, neither the working one nor a finalised one
 abbrev pub HasNoDir : SessionName → List Text → Type 0

@@ -33,7 +33,7 @@ pub(crate) enum Turn {
     Stays,
 }
 
-fn turn_of(step: &(Op, Reply), way: Way, h: u32) -> Turn
+pub(crate) fn turn_of(step: &(Op, Reply), way: Way, h: u32) -> Turn
     ensures { result ≡ turn_of way h step.now }
 {
     match (&step.0, &step.1) {
@@ -57,7 +57,7 @@ fn turn_of(step: &(Op, Reply), way: Way, h: u32) -> Turn
     }
 }
 
-fn turned_at(turn: Turn, before: Option<usize>, at: usize) -> Option<usize>
+pub(crate) fn turned_at(turn: Turn, before: Option<usize>, at: usize) -> Option<usize>
     requires { at < 2 ^ 63 }
     ensures { result ≡ turned_at turn before at }
 {

@@ -15,6 +15,7 @@ mod event;
 mod forward;
 mod ground;
 mod holds;
+mod index;
 mod laws;
 mod legal_laws;
 mod may;
@@ -24,6 +25,7 @@ mod permits;
 mod published;
 mod sought;
 mod standing;
+mod told;
 mod view;
 
 pub use content::Content;

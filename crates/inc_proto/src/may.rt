@@ -1,21 +1,24 @@
 //! Whether a session may make a step, by its own steps: one question for each permission. What they say of
 //! its name, its own lock and its directory is given.
-ghost use Rattle.std.specs.Prelude.{◌≡◌, ◌↔◌, ◌⊎◌, ◌<◌, ◌≤◌, ℕ, IsTrue, IfOk, length, Option, Some, reverse};
+ghost use Rattle.std.specs.Prelude.{◌≡◌, ◌↔◌, ◌⊎◌, ◌<◌, ◌≤◌, ℕ, IsTrue, IfOk, IfSome, length, Option, Some, reverse};
 ghost use Rattle.inc_fs.specs.declared.op.Op.TheVariants.{MakeLock};
 ghost use Rattle.inc_names.specs.Entries.{lock_text, working_text};
 ghost use Rattle.inc_proto.specs.declared.own.OwnLock.TheVariants.{Locked};
 ghost use Rattle.inc_proto.specs.Events.{Steps};
-ghost use Rattle.inc_proto.specs.Asked.{IsNotOut, HasNewer, HoldsBoth};
+ghost use Rattle.inc_proto.specs.Indexes.{Indexes};
+ghost use Rattle.inc_proto.specs.Asked.{HasNewer, HoldsBoth};
 ghost use Rattle.inc_proto.specs.Views.{name, own, dir, alone, HasTried, HasTriedDir, IsStanding};
 ghost use Rattle.inc_proto.specs.Views.Dir.{Unmade, Removed};
-ghost use Rattle.inc_proto.specs.Permits.{MayDraw, MayRead, MayMakeLock, MayMakeDirectory, MayLink, MayCreate, MayAppend, MayClear, MayClearOwn, MayClearOthers, MayRetire, MayRemoveLock, MayRemoveOwn, MayRemoveOthers};
+ghost use Rattle.inc_proto.specs.Permits.{IsNotOut, MayDraw, MayRead, MayMakeLock, MayMakeDirectory, MayLink, MayCreate, MayAppend, MayClear, MayClearOwn, MayClearOthers, MayRetire, MayRemoveLock, MayRemoveOwn, MayRemoveOthers};
 
 use crate::entries::{final_name, is_lock_of, is_working_of, lock_name, working_name};
-use crate::holds::{Question, Way, held_from, holds_and};
+use crate::holds::{Question, Way, held_from};
+use crate::index::Index;
 use crate::own::OwnLock;
 use crate::own_dir::OwnDir;
 use crate::sought::{Sought, has};
 use crate::standing::is_standing;
+use crate::told::holds_so;
 use inc_base::{Bytes, Job, Label, Memory};
 use inc_fs::{Op, Reply};
 use inc_names::{Entry, SessionName, entry_text};
@@ -194,6 +197,7 @@ pub(crate) fn may_make_dir(
 /// Whether it may link this file. It looks through the steps, where it may create such a file.
 pub(crate) fn may_link(
     steps: &[(Op, Reply)],
+    index: Option<&Index>,
     its: &OwnDir,
     lock: OwnLock,
     krate: &Label,
@@ -203,13 +207,14 @@ pub(crate) fn may_link(
 ) -> Result<bool, Memory>
     requires dir { its.now ≡ dir (reverse steps.now) }
     requires lock { lock ≡ own (reverse steps.now) }
+    requires index { IfSome index (λ index. Indexes (reverse steps.now) index.now) }
     ensures { IfOk result (λ yes. IsTrue yes ↔ MayLink (reverse steps.now) krate.now from.now to.now file.now) }
 {
     match final_name(from) {
         Some((n, _)) => {
             if may_create(its, lock, krate, to, file) {
                 let listing = Question::Has(Sought::Listing(krate, from, file));
-                holds_and(steps, krate, n, Way::ByOpening, listing)
+                holds_so(steps, index, krate, n, Way::ByOpening, listing)
             } else {
                 Ok(false)
             }
@@ -227,11 +232,13 @@ pub(crate) fn may_clear_own(its: &OwnDir, lock: OwnLock, krate: &Label, entry: &
 
 fn may_clear_others(
     steps: &[(Op, Reply)],
+    index: Option<&Index>,
     its: &OwnDir,
     krate: &Label,
     entry: &Label,
 ) -> Result<bool, Memory>
-    requires { its.now ≡ dir (reverse steps.now) }
+    requires dir { its.now ≡ dir (reverse steps.now) }
+    requires index { IfSome index (λ index. Indexes (reverse steps.now) index.now) }
     ensures { IfOk result (λ yes. IsTrue yes ↔ MayClearOthers (reverse steps.now) krate.now entry.now) }
 {
     match working_name(entry) {
@@ -241,7 +248,7 @@ fn may_clear_others(
                     Sought::Look(krate, entry),
                     Sought::Back(krate, entry, n),
                 );
-                holds_and(steps, krate, n, Way::Alone, seen)
+                holds_so(steps, index, krate, n, Way::Alone, seen)
             } else {
                 Ok(false)
             }
@@ -253,6 +260,7 @@ fn may_clear_others(
 /// Whether it may clear this directory. It looks through the steps, where the directory isn't its own.
 pub(crate) fn may_clear(
     steps: &[(Op, Reply)],
+    index: Option<&Index>,
     its: &OwnDir,
     lock: OwnLock,
     krate: &Label,
@@ -260,12 +268,13 @@ pub(crate) fn may_clear(
 ) -> Result<bool, Memory>
     requires dir { its.now ≡ dir (reverse steps.now) }
     requires lock { lock ≡ own (reverse steps.now) }
+    requires index { IfSome index (λ index. Indexes (reverse steps.now) index.now) }
     ensures { IfOk result (λ yes. IsTrue yes ↔ MayClear (reverse steps.now) krate.now entry.now) }
 {
     if may_clear_own(its, lock, krate, entry) {
         return Ok(true);
     }
-    may_clear_others(steps, its, krate, entry)
+    may_clear_others(steps, index, its, krate, entry)
 }
 
 /// Whether this is its own lock file, and it has its own lock.
@@ -299,11 +308,24 @@ fn may_remove_own(
     }
 }
 
-fn may_remove_others(steps: &[(Op, Reply)], krate: &Label, entry: &Label) -> Result<bool, Memory>
+fn may_remove_others(
+    steps: &[(Op, Reply)],
+    index: Option<&Index>,
+    krate: &Label,
+    entry: &Label,
+) -> Result<bool, Memory>
+    requires { IfSome index (λ index. Indexes (reverse steps.now) index.now) }
     ensures { IfOk result (λ yes. IsTrue yes ↔ MayRemoveOthers (reverse steps.now) krate.now entry.now) }
 {
     match lock_name(entry) {
-        Some(n) => holds_and(steps, krate, n, Way::Alone, Question::Clear(krate, n)),
+        Some(n) => holds_so(
+            steps,
+            index,
+            krate,
+            n,
+            Way::Alone,
+            Question::Clear(krate, n),
+        ),
         None => Ok(false),
     }
 }
@@ -311,6 +333,7 @@ fn may_remove_others(steps: &[(Op, Reply)], krate: &Label, entry: &Label) -> Res
 /// Whether it may take this lock file away. It looks through the steps, where the file isn't its own.
 pub(crate) fn may_remove_lock(
     steps: &[(Op, Reply)],
+    index: Option<&Index>,
     drawn: Option<SessionName>,
     its: &OwnDir,
     lock: OwnLock,
@@ -321,12 +344,13 @@ pub(crate) fn may_remove_lock(
     requires drawn { drawn ≡ name (reverse steps.now) }
     requires dir { its.now ≡ dir (reverse steps.now) }
     requires lock { lock ≡ own (reverse steps.now) }
+    requires index { IfSome index (λ index. Indexes (reverse steps.now) index.now) }
     ensures { IfOk result (λ yes. IsTrue yes ↔ MayRemoveLock job.now (reverse steps.now) krate.now entry.now) }
 {
     if may_remove_own(drawn, its, lock, job, krate, entry) {
         return Ok(true);
     }
-    may_remove_others(steps, krate, entry)
+    may_remove_others(steps, index, krate, entry)
 }
 
 fn has_newer(steps: &[(Op, Reply)], krate: &Label, n: SessionName) -> bool
@@ -352,34 +376,38 @@ fn is_outdated(
 /// Whether it holds n exclusively, and since then saw n's lock file and this directory in one `Look`.
 fn holds_both(
     steps: &[(Op, Reply)],
+    index: Option<&Index>,
     alloc: Global,
     krate: &Label,
     n: SessionName,
     from: &Label,
 ) -> Result<bool, Memory>
+    requires { IfSome index (λ index. Indexes (reverse steps.now) index.now) }
     ensures { IfOk result (λ yes. IsTrue yes ↔ HoldsBoth krate.now from.now n (reverse steps.now)) }
 {
     let lock = entry_text(alloc, &Entry::Lock(n))?;
     let both = Question::Has(Sought::Both(krate, &lock, from));
-    holds_and(steps, krate, n, Way::Alone, both)
+    holds_so(steps, index, krate, n, Way::Alone, both)
 }
 
 /// Whether it may rename this finalised directory back. It looks through the steps, where it is one.
 pub(crate) fn may_retire(
     steps: &[(Op, Reply)],
+    index: Option<&Index>,
     its: &OwnDir,
     alloc: Global,
     krate: &Label,
     from: &Label,
     to: &Label,
 ) -> Result<bool, Memory>
-    requires { its.now ≡ dir (reverse steps.now) }
+    requires dir { its.now ≡ dir (reverse steps.now) }
+    requires index { IfSome index (λ index. Indexes (reverse steps.now) index.now) }
     ensures { IfOk result (λ yes. IsTrue yes ↔ MayRetire (reverse steps.now) krate.now from.now to.now) }
 {
     match final_name(from) {
         Some((n, _)) => {
             if is_outdated(steps, its, krate, n, to) {
-                holds_both(steps, alloc, krate, n, from)
+                holds_both(steps, index, alloc, krate, n, from)
             } else {
                 Ok(false)
             }

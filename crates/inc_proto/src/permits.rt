@@ -110,6 +110,7 @@ fn may_rename<C: Content>(
     }
     may_retire(
         view.steps(),
+        view.index(),
         its,
         view.job().text.allocator(),
         krate,
@@ -123,6 +124,7 @@ fn is_permitted<C: Content>(view: &View, its: &OwnDir, content: &C, op: &Op) -> 
     ensures { IfOk result (λ yes. IsTrue yes ↔ IsPermitted C.files view.now.job view.now.steps op.now) }
 {
     let steps = view.steps();
+    let index = view.index();
     let job = view.job();
     let drawn = view.name();
     let lock = view.own_lock();
@@ -140,7 +142,7 @@ fn is_permitted<C: Content>(view: &View, its: &OwnDir, content: &C, op: &Op) -> 
             from,
             to,
             file,
-        } => may_link(steps, its, lock, krate, from, to, file),
+        } => may_link(steps, index, its, lock, krate, from, to, file),
         Op::Read { krate, entry, .. } => Ok(may_read(its, krate, entry)),
         Op::Create { krate, entry, file } => Ok(may_create(its, lock, krate, entry, file)),
         Op::Append {
@@ -149,11 +151,11 @@ fn is_permitted<C: Content>(view: &View, its: &OwnDir, content: &C, op: &Op) -> 
             file,
             piece,
         } => Ok(may_append(its, lock, krate, entry, file, piece)),
-        Op::Unlink { krate, entry, .. } => may_clear(steps, its, lock, krate, entry),
+        Op::Unlink { krate, entry, .. } => may_clear(steps, index, its, lock, krate, entry),
         Op::UnlinkLock { krate, entry } => {
-            may_remove_lock(steps, drawn, its, lock, job, krate, entry)
+            may_remove_lock(steps, index, drawn, its, lock, job, krate, entry)
         }
-        Op::RemoveDir { krate, entry } => may_clear(steps, its, lock, krate, entry),
+        Op::RemoveDir { krate, entry } => may_clear(steps, index, its, lock, krate, entry),
         Op::Rename { krate, from, to } => may_rename(view, its, content, krate, from, to),
         Op::Close { .. } => Ok(true),
     }
@@ -163,11 +165,12 @@ impl View {
     /// Whether the session may make this step: exactly where one of the nine permissions holds
     /// (docs/PROTOCOL.md, "What a session may do"). `Memory` where there is no memory for the answer.
     ///
-    /// Drawing, reading, creating, appending and clearing its own directory cost a look-up. Publishing, where
-    /// the directory stands and the new name is right, tells the directory from the session's own steps and
-    /// compares its files with the wanted ones once. Linking, making a lock file or a directory, and what is
-    /// done with others' names look through the session's own steps. (Where there was no memory to keep the
-    /// directory, it is told from the steps first.)
+    /// Drawing, reading, creating, appending and clearing its own directory cost a look-up. Linking, and clearing
+    /// another's directory that a `Look` listed since its name is held, cost some, and one for each handle that
+    /// the session was given on that name. Publishing, where the directory stands and the new name is right,
+    /// tells the directory from the session's own steps and compares its files with the wanted ones once. What
+    /// else is done with lock files, directories and others' names looks through the session's own steps. (Where
+    /// there was no memory to keep the directory and the index of the steps, these are looked through too.)
     pub fn permits<C: Content>(&self, content: &C, op: &Op) -> Result<bool, Memory>
         ensures { IfOk result (λ yes. IsTrue yes ↔ IsPermitted C.files self.now.job self.now.steps op.now) }
     {

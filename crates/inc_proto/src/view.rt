@@ -2,10 +2,12 @@ ghost use Rattle.std.specs.Prelude.{◌≡◌, ◌∷◌, [], OnOk, OnErr, IfSom
 ghost use Rattle.inc_fs.specs.declared.op.Op.TheVariants.{Draw};
 ghost use Rattle.inc_fs.specs.declared.op.Reply.TheVariants.{Fault};
 ghost use Rattle.inc_proto.specs.Events.{Steps};
+ghost use Rattle.inc_proto.specs.Indexes.{Indexes};
 ghost use Rattle.inc_proto.specs.Seen.{HasPlace};
 ghost use Rattle.inc_proto.specs.Views.{name, own, dir};
 
 use crate::forward::{name_after, own_after};
+use crate::index::{Index, bring_index, keep_index};
 use crate::own::OwnLock;
 use crate::own_dir::{OwnDir, kept_after, kept_again};
 use inc_base::{Copied, Job, List, Memory};
@@ -25,6 +27,8 @@ pub struct View {
     lock: OwnLock,
     /// Its directory, where there was memory to bring it forward.
     kept: Option<OwnDir>,
+    /// The index of its steps, where there was.
+    index: Option<Index>,
 }
 
 impl Model for View {
@@ -35,7 +39,7 @@ impl Model for View {
 
     ghost view = { λ v. record { number = v.who; job = v.job; steps = reverse v.steps } };
 
-    ghost invariant = { λ v. AreOf (reverse v.steps) v.drawn v.lock v.kept };
+    ghost invariant = { λ v. AreOf (reverse v.steps) v.drawn v.lock v.kept v.index };
 }
 
 impl View {
@@ -51,6 +55,7 @@ impl View {
             drawn: None,
             lock: OwnLock::NoLock,
             kept: Some(OwnDir::new(alloc)),
+            index: Some(Index::new(alloc)),
         }
     }
 
@@ -108,6 +113,7 @@ impl View {
         let kept = mem::replace(&mut self.kept, None);
         let again = kept_again(alloc, self.steps.as_slice(), kept);
         drop(mem::replace(&mut self.kept, again));
+        keep_index(&mut self.index, alloc, self.steps.as_slice());
         self.steps.push((Op::Draw, Reply::Fault))
     }
 
@@ -119,8 +125,8 @@ impl View {
         self.steps.drop_last();
     }
 
-    /// Puts the step into its place, and brings forward what is kept. It takes memory only for the directory,
-    /// which isn't kept where there is none.
+    /// Puts the step into its place, and brings forward what is kept. It takes memory only for the directory
+    /// and the index, which aren't kept where there is none.
     pub(crate) fn fill_place(&mut self, op: Op, reply: Reply)
         requires { HasPlace self.old.steps }
         ensures { (steps : Steps) → self.old.steps ≡ (Draw, Fault) ∷ steps → self.new ≡ record self.old { steps = (op, reply) ∷ steps } }
@@ -132,6 +138,7 @@ impl View {
         let kept = mem::replace(&mut self.kept, None);
         let next = kept_after(alloc, &step, kept);
         drop(mem::replace(&mut self.kept, next));
+        bring_index(&mut self.index, &step, self.steps.len() - 1);
         self.steps.set_last(step);
     }
 
@@ -154,5 +161,12 @@ impl View {
         ensures { IfSome result (λ own. own.now ≡ dir self.now.steps) }
     {
         self.kept.as_ref()
+    }
+
+    /// The index of its steps, where it is kept.
+    pub(crate) fn index(&self) -> Option<&Index>
+        ensures { IfSome result (λ index. Indexes self.now.steps index.now) }
+    {
+        self.index.as_ref()
     }
 }

@@ -89,11 +89,6 @@ abbrev pub handle_after : ℕ → Reply → ℕ
 handle_after before (Handle handle) = handle
 handle_after before reply = before
 
--- what it saw once it looked
-abbrev pub names_after : List Text → Reply → List Text
-names_after before (Names names) = names
-names_after before reply = before
-
 -- with what a reply tells
 abbrev pub learnt : Going → Reply → Going
 learnt g reply = record g { name = name_after g.name reply; handle = handle_after g.handle reply }

@@ -96,12 +96,6 @@ goes_on lock Rename Done = true
 goes_on lock Close reply = true
 goes_on lock stage reply = false
 
--- The session has come to this stage by these steps.
-pub record HasComeTo (plan : Plan) (stage : Stage) (steps : Steps) : Type 0 where
-  pub found : Found
-  pub seen : HasSeen found stage
-  pub made : steps ≡ before plan found stage
-
 -- These steps are the whole path: the last of them closes the lock, whatever its reply.
 pub record IsWholePath (plan : Plan) (steps : Steps) : Type 0 where
   pub found : Found

@@ -1,15 +1,17 @@
 //! Laws of the machine, each as the contract of a call that does nothing.
+ghost use Rattle.std.specs.List.{AllByRecursion};
 ghost use Rattle.std.specs.Prelude.{◌≡◌, ◌<◌, ◌∷◌, [], ℕ, List, Some};
 ghost use Rattle.inc_base.specs.declared.job.Job.{Job};
 ghost use Rattle.inc_fs.specs.declared.op.Op.{Op};
 ghost use Rattle.inc_fs.specs.declared.op.Reply.{Reply};
 ghost use Rattle.inc_fs.specs.State.{State};
 ghost use Rattle.inc_proto.specs.Events.{Steps};
+ghost use Rattle.inc_proto.specs.Growth.{IsOfOther};
 ghost use Rattle.inc_proto.specs.Leads.{LeadsTo};
 ghost use Rattle.inc_proto.specs.declared.event.Event.{Event};
 ghost use Rattle.inc_session.specs.Machine.{Going, HasMade, begun, fed, left_of};
 ghost use Rattle.inc_session.specs.Order.{Plan, Found};
-ghost use Rattle.inc_session.specs.Published.{Publishes, whole_run};
+ghost use Rattle.inc_session.specs.Published.{IsNew, Publishes, whole_run};
 
 /// A session that begins has made no step, and asks for the first one of its order.
 pub fn beginning_is_in_order()
@@ -36,4 +38,9 @@ pub fn feeding_comes_to_an_end()
 pub fn publishing_changes_its_own()
     ensures { (own : ℕ) (job : Job) (plan : Plan) (found : Found) (closed : Reply) (history : List Event) (G : State)
         → LeadsTo (whole_run own job plan found closed history) G → Publishes own plan found history G }
+{}
+
+/// A session of which a history says nothing has no open handle in the state to which it leads.
+pub fn unheard_sessions_are_new()
+    ensures { (own : ℕ) (history : List Event) (F : State) → AllByRecursion (IsOfOther own) history → LeadsTo history F → IsNew own F }
 {}

@@ -42,13 +42,10 @@ reads_append scope (p ∷ ps) qs = ap (λ x. path_reads scope p.0 p.1 ++ x) (rea
 
 -- ---- The state, part by part.
 
-drop_both : {A : Type 0} (n m k : ℕ) (xs : List A) → k ≡ n + m → drop k xs ≡ drop m (drop n xs)
-drop_both n m k xs e = ap (λ j. drop j xs) e ∙ sym (drop-drop m n xs)
-
 -- two parts, one after the other
 joined : (n m k : ℕ) (d1 d2 d : List Diag) (r1 r2 r : List ℕ) (s : Typer) → k ≡ n + m → d ≡ d1 ++ d2 → r ≡ r1 ++ r2 → grown k d r s ≡ grown m d2 r2 (grown n d1 r1 s)
 joined n m k d1 d2 d r1 r2 r s ek ed er = λ i. record s {
-  answers = drop_both n m k s.answers ek i;
+  answers = (ap (λ j. drop j s.answers) ek ∙ sym (drop-drop m n s.answers)) i;
   diags = (ap (λ x. s.diags ++ x) ed ∙ sym (append_assoc s.diags d1 d2)) i;
   reads = (ap (λ x. s.reads ++ x) er ∙ sym (append_assoc s.reads r1 r2)) i;
 }

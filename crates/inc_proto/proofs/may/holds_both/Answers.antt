@@ -10,6 +10,6 @@ returns c =
     let krate = c.args.krate.now in
     let from = c.args.from.now in
     let steps = reverse c.args.steps.now in
-    let r = c.holds_and.result in
+    let r = c.holds_so.result in
     subst (λ t. IfOk r (λ yes. IsTrue yes ↔ ((h : ℕ) × (after : Steps) × Holds Alone krate c.args.n steps h after × HasSeenBoth krate t from after)))
-    c.in_ok-lock.ensures c.holds_and.ensures
+    c.in_ok-lock.ensures c.holds_so.ensures

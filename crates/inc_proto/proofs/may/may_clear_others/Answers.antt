@@ -11,9 +11,9 @@ returns-then-is_others c =
     let entry = c.args.entry.now in
     let n = c.in-Some.n in
     let is = c.in-Some.ensures.some in
-    answers_as (HoldsFound krate entry n steps) (MayClearOthers steps krate entry) c.holds_and.result
-    (may_clear_others steps krate entry n is.0 is.1 (others_of krate n c.args.its.now steps c.requires (c.is_others.ensures.0 c.if-is_others.true)))
-    (clear_holds steps krate entry n is.1) c.holds_and.ensures
+    answers_as (HoldsFound krate entry n steps) (MayClearOthers steps krate entry) c.holds_so.result
+    (may_clear_others steps krate entry n is.0 is.1 (others_of krate n c.args.its.now steps c.requires.dir (c.is_others.ensures.0 c.if-is_others.true)))
+    (clear_holds steps krate entry n is.1) c.holds_so.ensures
 
 pub returns-else-is_others : goal.returns-else-is_others
 returns-else-is_others c =
@@ -22,7 +22,7 @@ returns-else-is_others c =
     let entry = c.args.entry.now in
     let n = c.in-Some.n in
     never (λ w. false≢true (sym c.if-is_others.false
-    ∙ c.is_others.ensures.1 (of_others krate n c.args.its.now steps c.requires (clear_others steps krate entry n c.in-Some.ensures.some.1 w))))
+    ∙ c.is_others.ensures.1 (of_others krate n c.args.its.now steps c.requires.dir (clear_others steps krate entry n c.in-Some.ensures.some.1 w))))
 
 pub returns-in-None : goal.returns-in-None
 returns-in-None c = never (λ w. c.in-None.ensures.none w.0 w.3 w.4)

@@ -14,9 +14,9 @@ returns-then-may_create c =
     let n = c.in-Some.n in
     let hash = c.in-Some.field-0-1 in
     let is = c.in-Some.ensures.some in
-    answers_as (HoldsListing krate from file n steps) (MayLink steps krate from to file) c.holds_and.result
+    answers_as (HoldsListing krate from file n steps) (MayLink steps krate from to file) c.holds_so.result
     (may_link steps krate from to file n hash is.0 is.1 is.2 ((c.may_create.ensures steps c.requires.dir c.requires.lock).0 c.if-may_create.true))
-    (link_holds steps krate from to file n hash is.2) c.holds_and.ensures
+    (link_holds steps krate from to file n hash is.2) c.holds_so.ensures
 
 pub returns-else-may_create : goal.returns-else-may_create
 returns-else-may_create c =

@@ -10,8 +10,8 @@ returns-in-Some c =
     let entry = c.args.entry.now in
     let n = c.in-Some.n in
     let is = c.in-Some.ensures.some in
-    answers_as (HoldsClear krate n steps) (MayRemoveOthers steps krate entry) c.holds_and.result
-    (may_remove_others steps krate entry n is.0 is.1) (remove_holds steps krate entry n is.1) c.holds_and.ensures
+    answers_as (HoldsClear krate n steps) (MayRemoveOthers steps krate entry) c.holds_so.result
+    (may_remove_others steps krate entry n is.0 is.1) (remove_holds steps krate entry n is.1) c.holds_so.ensures
 
 pub returns-in-None : goal.returns-in-None
 returns-in-None c = never (λ w. c.in-None.ensures.none w.0 w.6 w.7)

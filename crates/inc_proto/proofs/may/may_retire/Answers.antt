@@ -16,7 +16,7 @@ returns-then-is_outdated c =
     let is = c.in-Some.ensures.some in
     let told = c.is_outdated.ensures.0 c.if-is_outdated.true in
     answers_as (HoldsBoth krate from n steps) (MayRetire steps krate from to) c.holds_both.result
-    (may_retire steps krate from to n hash is.0 is.1 is.2 told.0 (others_of krate n c.args.its.now steps c.requires told.1) told.2)
+    (may_retire steps krate from to n hash is.0 is.1 is.2 told.0 (others_of krate n c.args.its.now steps c.requires.dir told.1) told.2)
     (retires_both steps krate from to n hash is.2) c.holds_both.ensures
 
 pub returns-else-is_outdated : goal.returns-else-is_outdated
@@ -27,7 +27,7 @@ returns-else-is_outdated c =
     let to = c.args.to.now in
     let n = c.in-Some.n in
     never (λ w. false≢true (sym c.if-is_outdated.false
-    ∙ c.is_outdated.ensures.1 (retires_of steps krate from to n c.in-Some.field-0-1 c.args.its.now c.requires c.in-Some.ensures.some.2 w)))
+    ∙ c.is_outdated.ensures.1 (retires_of steps krate from to n c.in-Some.field-0-1 c.args.its.now c.requires.dir c.in-Some.ensures.some.2 w)))
 
 pub returns-in-None : goal.returns-in-None
 returns-in-None c = never (λ w. c.in-None.ensures.none w.0 w.1 w.6 w.7 w.8)

@@ -14,7 +14,7 @@ invariant_of-self c =
     let rest = c.requires.0 in
     let was : reverse inside.steps ≡ (Draw, Fault) ∷ rest = ap (λ v. v.steps) c.self.view_is ∙ c.requires.1 in
     let now = c.drop_last.ensures.last (reverse rest) (Draw, Fault) (first_is_last inside.steps (Draw, Fault) rest was) in
-    let P : Steps → Type 0 = λ s. AreOf s inside.drawn inside.lock inside.kept in
+    let P : Steps → Type 0 = λ s. AreOf s inside.drawn inside.lock inside.kept inside.index in
     subst P (sym (ap reverse now ∙ reverse-reverse rest)) (without_place (subst P was c.self.invariant))
 
 pub returns : goal.returns

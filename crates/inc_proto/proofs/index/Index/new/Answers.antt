@@ -1,0 +1,5 @@
+use Rattle.inc_proto.proofs.Indexed.{indexes_none}
+use Rattle.inc_proto.proofs.index.Index.new.Goals as goal
+
+pub returns : goal.returns
+returns c = indexes_none _ c.new.ensures c.new-2.ensures c.new-3.ensures c.new-4.ensures

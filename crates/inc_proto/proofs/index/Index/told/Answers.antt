@@ -1,0 +1,9 @@
+use Rattle.std.proofs.Common.{sym, subst, IfOk}
+use Rattle.inc_proto.specs.Events.{Steps}
+use Rattle.inc_proto.specs.Indexes.{Indexes, IsTold}
+use Rattle.inc_proto.specs.Sought.{Answers}
+use Rattle.inc_proto.proofs.index.Index.told.Goals as goal
+
+pub returns-in-Has : goal.returns-in-Has
+returns-in-Has c =
+    subst (λ q. IfOk c.last_of.result (λ told. (steps : Steps) → Indexes steps c.args.self.now → IsTold (Answers q) steps told)) (sym c.in-Has.is) c.last_of.ensures

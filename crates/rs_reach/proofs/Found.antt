@@ -38,7 +38,7 @@ not_true true e = absurd cc
 not_true false e = refl
 
 -- what holds of those found, and of each that may be found and is called, holds of all that are found then
-all_added : (P : ℕ → Type 0) (may : List Bool) (cs found : List ℕ) → All P found → ((c : ℕ) → Contains cs c → slice_index_or may c false ≡ true → P c) → All P (added may found cs)
+pub all_added : (P : ℕ → Type 0) (may : List Bool) (cs found : List ℕ) → All P found → ((c : ℕ) → Contains cs c → slice_index_or may c false ≡ true → P c) → All P (added may found cs)
 all_added P may [] found all called = all
 all_added P may (c ∷ cs) found all called = all_added P may cs (cond (is_new may found c) (found ++ c ∷ []) found) (by (is_new may found c) refl) (λ d h. called d (later c cs d h))
   where
@@ -56,7 +56,7 @@ grows may (c ∷ cs) found = by (is_new may found c) (λ xs. grows may cs xs)
     by false ih = ih found
 
 -- what may be found and is called is found then
-is_added : (may : List Bool) (cs found : List ℕ) (b : ℕ) → Contains cs b → slice_index_or may b false ≡ true → Contains (added may found cs) b
+pub is_added : (may : List Bool) (cs found : List ℕ) (b : ℕ) → Contains cs b → slice_index_or may b false ≡ true → Contains (added may found cs) b
 is_added may [] found b h m = absurd (omega (arith, h.1))
 is_added may (c ∷ cs) found b (zero, l, e) m = by (is_new may found c) refl
   where
@@ -151,12 +151,12 @@ finds_reached may ask roots n none b = (
 )
 
 -- none is found twice, and all have numbers of functions
-may_below : (may : List Bool) (c : ℕ) → slice_index_or may c false ≡ true → c < length may
+pub may_below : (may : List Bool) (c : ℕ) → slice_index_or may c false ≡ true → c < length may
 may_below [] c e = absurd cc
 may_below (m ∷ may) zero e = omega arith
 may_below (m ∷ may) (suc c) e = omega (arith, may_below may c e)
 
-distinct_added : (may : List Bool) (cs found : List ℕ) → IsDistinct nat_eq found → IsDistinct nat_eq (added may found cs)
+pub distinct_added : (may : List Bool) (cs found : List ℕ) → IsDistinct nat_eq found → IsDistinct nat_eq (added may found cs)
 distinct_added may [] found d = d
 distinct_added may (c ∷ cs) found d = distinct_added may cs (cond (is_new may found c) (found ++ c ∷ []) found) (by (is_new may found c) refl)
   where

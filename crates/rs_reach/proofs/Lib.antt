@@ -3,5 +3,6 @@ mod Found
 mod Kept
 mod Numbered
 mod Numbers
+mod Onward
 pub mod Steps
 mod Together

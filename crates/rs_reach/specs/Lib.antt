@@ -2,4 +2,5 @@ pub mod Calls
 pub mod Dead
 pub mod Laws
 pub mod Places
+pub mod Reached
 pub mod Search

@@ -1,7 +1,7 @@
 //! What is reached by calls: the functions that an item calls, and those that are never used.
 //!
 //! One search over the items of an index, by their numbers: each function that is found is asked for its calls.
-//! `rs_lookup` stands below, and what warns above. Open `specs/Search.antt` first, then `specs/Dead.antt`
+//! `rs_lookup` stands below, what warns and constants above. Open `specs/Search.antt` first, then `specs/Dead.antt`
 //! and `specs/Calls.antt`.
 #![tactic(auto)]
 
@@ -10,8 +10,10 @@ mod dead;
 mod keys;
 mod laws;
 mod marks;
+mod reached;
 mod search;
 
 pub use calls::calls_of;
 pub use dead::dead_items;
 pub use laws::search_is_exact;
+pub use reached::reached_from;

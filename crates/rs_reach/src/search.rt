@@ -47,7 +47,7 @@ pub(crate) fn search<'a>(
 }
 
 // The next to ask.
-fn next(found: &[usize], asked: usize) -> Option<usize>
+pub(crate) fn next(found: &[usize], asked: usize) -> Option<usize>
     ensures { result ≡ slice_get found.now asked }
 {
     found.get(asked).copied()

@@ -1,4 +1,4 @@
-use Rattle.std.proofs.Common.{◌≡◌, ◌+◌, ℕ, Bool, List, length, ap, ◌∙◌, IfOk}
+use Rattle.std.proofs.Common.{◌≡◌, ◌+◌, ℕ, Bool, List, length, ◌∙◌, IfOk}
 use Rattle.rs_reach.specs.Search.{start, walk}
 use Rattle.rs_reach.specs.Places.{IsLeft, ask}
 use Rattle.rs_lookup.specs.Places.{Name}

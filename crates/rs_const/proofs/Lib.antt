@@ -1,0 +1,5 @@
+mod Ended
+mod Given
+pub mod Lists
+mod Settling
+mod Stuck

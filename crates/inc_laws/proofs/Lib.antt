@@ -53,3 +53,7 @@ pub mod Stays
 pub mod Pairs
 pub mod Newest
 pub mod Replies
+pub mod Sorted
+pub mod Ranges
+pub mod Found
+pub mod Whole

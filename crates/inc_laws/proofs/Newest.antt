@@ -58,12 +58,12 @@ abbrev pub Found : Text → Option Publication → List Publication → Type 0
 Found krate None all = (other : Publication) → IsIn all other → other.job.krate ≢ krate
 Found krate (Some made) all = IsNewestOf krate made all
 
-equal_names : (a b : SessionName) → name_order a b ≡ Equal → a ≡ b
+pub equal_names : (a b : SessionName) → name_order a b ≡ Equal → a ≡ b
 equal_names a b is =
     let pairs = exact_pairs nat_cmp nat_cmp exact_unsigned exact_unsigned (a.moment, a.random) (b.moment, b.random) is in
     same_name a b (ap (λ (p : ℕ × ℕ). p.0) pairs) (ap (λ (p : ℕ × ℕ). p.1) pairs)
 
-newer_itself : (n : SessionName) → ¬ IsNewer n n
+pub newer_itself : (n : SessionName) → ¬ IsNewer n n
 newer_itself n p = newer_once n n p p
 
 pub newest_found : (krate : Text) (all : List Publication) → Found krate (newest_among krate all) all
@@ -135,7 +135,7 @@ newest_found krate (made ∷ rest) = go (same_text made.job.krate krate) refl (n
 
 -- ---- What was published stays so.
 
-is_here_same : (krate entry k e : Text) → is_here krate entry k e ≡ true → (krate ≡ k) × (entry ≡ e)
+pub is_here_same : (krate entry k e : Text) → is_here krate entry k e ≡ true → (krate ≡ k) × (entry ≡ e)
 is_here_same krate entry k e is = go (same_text k krate) (same_text e entry) refl refl is
   where
     go : (a b : Bool) → same_text k krate ≡ a → same_text e entry ≡ b → (a && b) ≡ true → (krate ≡ k) × (entry ≡ e)
@@ -221,7 +221,7 @@ module _ (files : Files) (H : List Event) (F : State) (l : Laws files H F) where
   outs_stay (Left number op cut) G is who k e out = (out, refl)
 
   -- what a publishing step adds
-  publishes : (who : ℕ) (op : Op) (reply : Reply) (G : State) → MayDo files H who op → is_publishing (op, reply) (dir (own_steps who H)) ≡ true
+  pub publishes : (who : ℕ) (op : Op) (reply : Reply) (G : State) → MayDo files H who op → is_publishing (op, reply) (dir (own_steps who H)) ≡ true
       → (n : SessionName) × (job : Job) × (name (own_steps who H) ≡ Some n) × (job_of who H ≡ Some job) × (site_of (dir_after (op, reply) (dir (own_steps who H))) ≡ Out job.krate (final_text n (job_hash_of job)))
   publishes who op reply G may is = go op reply (dir (own_steps who H)) refl is (may_parts files H who op may)
     where

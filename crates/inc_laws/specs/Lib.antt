@@ -4,3 +4,4 @@ pub mod Laws
 pub mod Invariants
 pub mod Steps
 pub mod Drawn
+pub mod Newest

@@ -3,7 +3,7 @@
 //! `inc_fs`, `inc_names`, `inc_wire` and `inc_proto` stand below. The ten invariants are said in
 //! `specs/Invariants.antt`, which a reader should open first, over the readings of `specs/Readings.antt`;
 //! `specs/Laws.antt` has what each event keeps. Each law is the contract of a call that does nothing;
-//! `names_once` answers for a ground.
+//! `names_once` and `newest_stands` answer for a ground.
 #![tactic(auto)]
 
 mod counts;
@@ -11,6 +11,7 @@ mod events;
 mod expects;
 mod invariants;
 mod published;
+mod stands;
 mod steps;
 
 pub use counts::names_once;
@@ -20,6 +21,7 @@ pub use events::{
 pub use expects::{listings_have_one_final, own_files_are_found};
 pub use invariants::{events_leave_alone, the_invariants_hold};
 pub use published::{drawn_pairs_differ, newest_entries_stand, published_entries_are_sessions};
+pub use stands::newest_stands;
 pub use steps::{
     appends_keep_laws, closes_keep_laws, directories_made_keep_laws, directories_removed_keep_laws,
     draws_keep_laws, files_created_keep_laws, files_unlinked_keep_laws, links_keep_laws,

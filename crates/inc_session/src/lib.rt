@@ -11,8 +11,8 @@ mod session;
 mod stage;
 
 pub use laws::{
-    beginning_is_in_order, feeding_comes_to_an_end, feeding_keeps_order, publishing_changes_its_own,
-    unheard_sessions_are_new,
+    beginning_is_in_order, feeding_comes_to_an_end, feeding_keeps_order,
+    publishing_changes_its_own, unheard_sessions_are_new,
 };
 pub use outcome::Outcome;
 pub use session::Session;

@@ -1,0 +1,47 @@
+//! Replies as they are printed.
+
+use inc_base::Memory;
+use inc_fs::Reply;
+use std::alloc::Global;
+use std::fmt;
+use std::fmt::{Display, Formatter, Write};
+
+/// What came of a row: that it isn't permitted, that the session left, or the reply. Of names and bytes it is how many
+/// there are.
+#[derive(Drop)]
+pub enum Came {
+    NotPermitted,
+    Left,
+    Replied(Reply),
+}
+
+/// As it is printed.
+pub fn text_of(alloc: Global, came: &Came) -> Result<String, Memory> {
+    Ok(format!(in alloc; "{came}")?)
+}
+
+impl Display for Came {
+    fn fmt<W: Write>(&self, f: &mut Formatter<W>) -> fmt::Result {
+        match self {
+            Came::NotPermitted => f.write_str("not permitted"),
+            Came::Left => f.write_str("done"),
+            Came::Replied(reply) => print(reply, f),
+        }
+    }
+}
+
+fn print<W: Write>(reply: &Reply, f: &mut Formatter<W>) -> fmt::Result {
+    match reply {
+        Reply::Drawn(moment, _) => write!(f, "drawn {moment}"),
+        Reply::Handle(handle) => write!(f, "handle {handle}"),
+        Reply::Got => f.write_str("got"),
+        Reply::Held => f.write_str("held"),
+        Reply::Names(names) => write!(f, "names {}", names.len()),
+        Reply::Bytes(bytes) => write!(f, "bytes {}", bytes.len()),
+        Reply::Done => f.write_str("done"),
+        Reply::Exists => f.write_str("exists"),
+        Reply::Missing => f.write_str("missing"),
+        Reply::NotEmpty => f.write_str("not empty"),
+        Reply::Fault => f.write_str("fault"),
+    }
+}

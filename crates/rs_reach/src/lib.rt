@@ -13,7 +13,7 @@ mod marks;
 mod reached;
 mod search;
 
-pub use calls::calls_of;
+pub use calls::{Callees, calls_of};
 pub use dead::dead_items;
 pub use laws::search_is_exact;
 pub use reached::reached_from;

@@ -57,3 +57,8 @@ pub mod Sorted
 pub mod Ranges
 pub mod Found
 pub mod Whole
+pub mod Coming
+pub mod Sought
+pub mod Gave
+pub mod Fresh
+pub mod Latest

@@ -203,7 +203,7 @@ module _ (files : Files) (H : List Event) (F : State) (l : Laws files H F) where
       none_some its.0 (jobs_of H who) ((l.numbers.fresh who (omega (arith, is))).1) its.2
 
   -- and stays out, with its job
-  outs_stay : (event : Event) (G : State) → Happens H F event G → (who : ℕ) (k e : Text) → sites_of H who ≡ Out k e → (sites_of (event ∷ H) who ≡ Out k e) × (jobs_of (event ∷ H) who ≡ jobs_of H who)
+  pub outs_stay : (event : Event) (G : State) → Happens H F event G → (who : ℕ) (k e : Text) → sites_of H who ≡ Out k e → (sites_of (event ∷ H) who ≡ Out k e) × (jobs_of (event ∷ H) who ≡ jobs_of H who)
   outs_stay (Begin number job) G is who k e out =
       let off : number ≢ who = λ same. out_begun who k e out (sym is.0 ∙ same) in (
         (λ i. site_of (dir (there (λ w. own_steps w H) number [] who off i))) ∙ out,
@@ -247,7 +247,7 @@ module _ (files : Files) (H : List Event) (F : State) (l : Laws files H F) where
       go (Rename krate from to) reply d at is p = cc
       go op reply d at is p = cc
 
-in_rest : {X : Type 0} (xs ys : List X) (x : X) → IsIn ys x → IsIn (xs ++ ys) x
+pub in_rest : {X : Type 0} (xs ys : List X) (x : X) → IsIn ys x → IsIn (xs ++ ys) x
 in_rest [] ys x h = h
 in_rest (y ∷ xs) ys x h = inr (in_rest xs ys x h)
 

@@ -45,7 +45,7 @@ use Rattle.inc_laws.proofs.Wraps.{own_place}
 
 -- ---- Lists whose keys ascend.
 
-abbrev Ascend : List Text → Type 0
+abbrev pub Ascend : List Text → Type 0
 Ascend ks = IsStrictlySortedBy text_cmp ks
 
 not_below_itself : (k : Text) → text_cmp k k ≡ Less → ⊥
@@ -107,12 +107,12 @@ module _ {V : Type 0} where
         | inr later ↦ ih later
       ]
 
-  key_in : (es : List (Text × V)) (q : Text) (v : V) → IsIn es (q, v) → IsIn (keys_of es) q
+  pub key_in : (es : List (Text × V)) (q : Text) (v : V) → IsIn es (q, v) → IsIn (keys_of es) q
   key_in [] q v within = absurd within
   key_in (e ∷ es) q v (inl same) = inl (ap (λ (x : Text × V). x.0) same)
   key_in (e ∷ es) q v (inr later) = inr (key_in es q v later)
 
-  lookup_in : (es : List (Text × V)) (q : Text) (v : V) → Ascend (keys_of es) → IsIn es (q, v) → lookup (is_at (text_cmp q)) es ≡ Some v
+  pub lookup_in : (es : List (Text × V)) (q : Text) (v : V) → Ascend (keys_of es) → IsIn es (q, v) → lookup (is_at (text_cmp q)) es ≡ Some v
   unfolding IsStrictlySortedBy
   lookup_in [] q v a within = absurd within
   lookup_in (e ∷ es) q v a (inl same) =
@@ -153,7 +153,7 @@ module _ (files : Files) (H : List Event) (F : State) (l : Laws files H F) where
       go (Rename k from to) reply d at is p = cc
       go op reply d at is p = cc
 
-published_sorted : (files : Files) (events : List Event) (G : State) → LeadsTo events G → AreAllowed files events → (made : Publication) → IsIn (published events) made
+pub published_sorted : (files : Files) (events : List Event) (G : State) → LeadsTo events G → AreAllowed files events → (made : Publication) → IsIn (published events) made
     → (set : List (Text × Text)) → IsSet files made.job set → Ascend (keys_of set)
 published_sorted files [] G leads allowed made at = absurd at
 published_sorted files (Begin number job ∷ H) G (F, leads, is) allowed made at = published_sorted files H F leads allowed.0 made at
@@ -177,32 +177,37 @@ published_sorted files (Did who op reply ∷ H) G (F, leads, is) allowed made at
 
 -- ---- So the newest is whole.
 
-file_bytes : (F : State) (f : ℕ) → option_map (λ (found : ℕ × File). found.1.bytes) (numbered F f) ≡ bytes_of F f
+pub file_bytes : (F : State) (f : ℕ) → option_map (λ (found : ℕ × File). found.1.bytes) (numbered F f) ≡ bytes_of F f
 file_bytes F f = go (slice_get F.files f)
   where
     go : (o : Option File) → option_map (λ (found : ℕ × File). found.1.bytes) (option_map (λ file. (f, file)) o) ≡ option_map (λ file. file.bytes) o
     go None = refl
     go (Some file) = refl
 
+-- a directory that holds a set has its names
+pub set_keys : (bytes : ℕ → Option Text) (folder : List (Text × ℕ)) (set : List (Text × Text)) → Ascend (keys_of folder) → Ascend (keys_of set) → HoldsSet bytes folder set → keys_of folder ≡ keys_of set
+set_keys all folder set a b holds =
+    same_sorted (keys_of folder) (keys_of set) a b
+    (λ q within. found_in set q (forward (named q folder) (lookup (is_at (text_cmp q)) set) (holds q) (in_found folder q within)))
+    (λ q within. found_in folder q (backward (named q folder) (lookup (is_at (text_cmp q)) set) (holds q) (in_found set q within)))
+  where
+    forward : (f : Option ℕ) (found : Option Text) → IsBytes all f found → IsSome f → IsSome found
+    forward None found is some = cc
+    forward (Some f) found is some = is.0
+
+    backward : (f : Option ℕ) (found : Option Text) → IsBytes all f found → IsSome found → IsSome f
+    backward None found is some = subst IsSome is some
+    backward (Some f) found is some = cc
+
 whole_from : (F : State) (krate entry : Text) (folder : List (Text × ℕ)) (set : List (Text × Text)) → folder_at F krate entry ≡ Some folder → Ascend (keys_of folder) → Ascend (keys_of set)
     → HoldsSet (bytes_of F) folder set → IsWhole F krate entry set
 whole_from F krate entry folder set stands a b holds = record {
   folder = folder;
   stands = stands;
-  names = same_sorted (keys_of folder) (keys_of set) a b
-      (λ q within. found_in set q (forward (named q folder) (lookup (is_at (text_cmp q)) set) (holds q) (in_found folder q within)))
-      (λ q within. found_in folder q (backward (named q folder) (lookup (is_at (text_cmp q)) set) (holds q) (in_found set q within)));
+  names = set_keys (bytes_of F) folder set a b holds;
   bytes = λ file bytes within. at file bytes (named file folder) refl (subst (IsBytes (bytes_of F) (named file folder)) (lookup_in set file bytes b within) (holds file));
 }
   where
-    forward : (f : Option ℕ) (found : Option Text) → IsBytes (bytes_of F) f found → IsSome f → IsSome found
-    forward None found is some = cc
-    forward (Some f) found is some = is.0
-
-    backward : (f : Option ℕ) (found : Option Text) → IsBytes (bytes_of F) f found → IsSome found → IsSome f
-    backward None found is some = subst IsSome is some
-    backward (Some f) found is some = cc
-
     at : (file bytes : Text) (f : Option ℕ) → named file folder ≡ f → IsBytes (bytes_of F) f (Some bytes) → option_map (λ (found : ℕ × File). found.1.bytes) (file_at F krate entry file) ≡ Some bytes
     at file bytes None is holds = cc
     at file bytes (Some f) is holds =

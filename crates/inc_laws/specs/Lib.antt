@@ -5,3 +5,5 @@ pub mod Invariants
 pub mod Steps
 pub mod Drawn
 pub mod Newest
+pub mod Loads
+pub mod Places

@@ -3,13 +3,15 @@
 //! `inc_fs`, `inc_names`, `inc_wire` and `inc_proto` stand below. The ten invariants are said in
 //! `specs/Invariants.antt`, which a reader should open first, over the readings of `specs/Readings.antt`;
 //! `specs/Laws.antt` has what each event keeps. Each law is the contract of a call that does nothing;
-//! `names_once` and `newest_stands` answer for a ground.
+//! `names_once`, `loaded_is_whole` and `newest_stands` answer for a ground.
 #![tactic(auto)]
 
+mod ahead;
 mod counts;
 mod events;
 mod expects;
 mod invariants;
+mod loads;
 mod published;
 mod stands;
 mod steps;
@@ -20,6 +22,7 @@ pub use events::{
 };
 pub use expects::{listings_have_one_final, own_files_are_found};
 pub use invariants::{events_leave_alone, the_invariants_hold};
+pub use loads::loaded_is_whole;
 pub use published::{drawn_pairs_differ, newest_entries_stand, published_entries_are_sessions};
 pub use stands::newest_stands;
 pub use steps::{

@@ -56,7 +56,7 @@ fn found(event: &Event, krate: &Name) -> Option<(SessionName, u128)>
 
 /// The session whose finalised directory this is, and its hash.
 #[tactic(auto, using(inc_names::specs::EntryLaws::lock_is_no_final, inc_names::specs::EntryLaws::working_is_no_final))]
-fn final_name(l: &Label) -> Option<(SessionName, u128)>
+pub(crate) fn final_name(l: &Label) -> Option<(SessionName, u128)>
     ensures { IsFinal l.now result }
 {
     match read_entry(l) {

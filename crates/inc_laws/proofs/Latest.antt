@@ -6,10 +6,14 @@ use Rattle.std.proofs.lemmas.List.{reverse-append, append_assoc, append-nil}
 use Rattle.inc_base.specs.declared.job.Job.{Job}
 use Rattle.inc_fs.specs.State.{State, Text}
 use Rattle.inc_fs.specs.declared.op.Op.{Op}
+use Rattle.inc_fs.specs.declared.op.Op.TheVariants.{ListDir}
 use Rattle.inc_fs.specs.declared.op.Reply.{Reply}
+use Rattle.inc_fs.specs.declared.op.Reply.TheVariants.{Names}
 use Rattle.inc_names.specs.declared.entry.Entry.{Entry}
 use Rattle.inc_names.specs.declared.entry.Entry.TheVariants.{Final}
 use Rattle.inc_names.specs.declared.session.SessionName.{SessionName}
+use Rattle.inc_names.specs.Entries.{final_text}
+use Rattle.inc_names.specs.EntryLaws.{same_final_text}
 use Rattle.inc_proto.specs.Events.{Steps, own_steps, job_of}
 use Rattle.inc_proto.specs.declared.event.Event.{Event}
 use Rattle.inc_proto.specs.Files.{Files}
@@ -43,7 +47,7 @@ has_load krate steps n hash is =
     let load : BeginsLoad krate n hash w.1 w.2 (reverse w.0) = subst (BeginsLoad krate n hash w.1 w.2) (append-nil (reverse w.0)) w.4 in
     (load.names, record { later = w.0; step = w.1; before = w.2; is = w.3; begins = load; listed = refl })
 
-same_step : (x y : Op × Reply) (xs ys : Steps) → x ∷ xs ≡ y ∷ ys → (x ≡ y) × (xs ≡ ys)
+pub same_step : (x y : Op × Reply) (xs ys : Steps) → x ∷ xs ≡ y ∷ ys → (x ≡ y) × (xs ≡ ys)
 same_step x y xs ys is = (cc, cc)
 
 no_load : (krate : Text) (steps coming : Steps) → IsLatestLoad krate steps coming None → (later : Steps) (step : Op × Reply) (before : Steps) → steps ≡ later ++ step ∷ before
@@ -106,3 +110,25 @@ none_by who events job krate steps its own here none other n hash names its_othe
     let same : job ≡ other = some_same job other (sym its ∙ its_other) in
     has_none job.krate (own_steps who events) (subst (λ ss. IsLatestLoad job.krate ss [] None) (sym own) (subst (λ k. IsLatestLoad k steps [] None) here none)) n hash names
     (subst (λ (j : Job). HasLoad j.krate n hash names (own_steps who events)) (sym same) load)
+
+-- ---- What is loaded is one.
+
+one_load : (krate : Text) (m n : SessionName) (h k : ℕ) (step : Op × Reply) (before coming : Steps) → BeginsLoad krate m h step before coming → BeginsLoad krate n k step before coming → (m ≡ n) × (h ≡ k)
+one_load krate m n h k step before coming a b = same_final_text m n h k a.named.1 b.named.1 (entries (final_text m h) (final_text n k) a.names b.names (sym a.lists ∙ b.lists))
+  where
+    entries : (x y : Text) (xs ys : List Text) → ◌≡◌ {A = Op × Reply} (ListDir krate x, Names xs) (ListDir krate y, Names ys) → x ≡ y
+    entries x y xs ys is = let op : ListDir krate x ≡ ListDir krate y = ap (λ (s : Op × Reply). s.0) is in cc
+
+latest_is_one : (krate : Text) (steps coming : Steps) (a b : Option (SessionName × ℕ)) → IsLatestLoad krate steps coming a → IsLatestLoad krate steps coming b → a ≡ b
+latest_is_one krate [] coming a b one other = one ∙ sym other
+latest_is_one krate (step ∷ before) coming a b (inl (m, h, load, found)) (inl (n, k, again, too)) =
+    let same = one_load krate m n h k step before coming load again in
+    found ∙ (λ i. Some (same.0 i, same.1 i)) ∙ sym too
+latest_is_one krate (step ∷ before) coming a b (inl (m, h, load, found)) (inr (none, rest)) = absurd (none m h load)
+latest_is_one krate (step ∷ before) coming a b (inr (none, rest)) (inl (n, k, again, too)) = absurd (none n k again)
+latest_is_one krate (step ∷ before) coming a b (inr (none, rest)) (inr (too, other)) = latest_is_one krate before (step ∷ coming) a b rest other
+
+pub loaded_is_one : (who : ℕ) (events : List Event) (a b : Option Entry) → IsLoaded who events a → IsLoaded who events b → a ≡ b
+loaded_is_one who events a b one other =
+    let same : one.job ≡ other.job = some_same one.job other.job (sym one.its ∙ other.its) in
+    one.is ∙ ap (option_map entry_by) (latest_is_one other.job.krate (own_steps who events) [] one.load other.load (subst (λ (j : Job). IsLatestLoad j.krate (own_steps who events) [] one.load) same one.latest) other.latest) ∙ sym other.is

@@ -62,3 +62,4 @@ pub mod Sought
 pub mod Gave
 pub mod Fresh
 pub mod Latest
+pub mod Answered

@@ -7,3 +7,4 @@ pub mod Drawn
 pub mod Newest
 pub mod Loads
 pub mod Places
+pub mod Fair

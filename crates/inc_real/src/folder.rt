@@ -4,39 +4,40 @@ ghost use Rattle.inc_fs.specs.declared.op.Op.TheVariants.{Draw, MakeLock, OpenLo
 
 use crate::draws::Draws;
 use crate::handles::Handles;
-use crate::trouble::Trouble;
-use inc_base::{Bytes, Label, List, Memory, StdSource, read_to};
+use crate::names::Names;
+use crate::places::{Places, Seen, below};
+use crate::replies::reply_to;
+use crate::stop::{Failure, Stop};
+use crate::things::{Plain, open_seen, thing_at};
+use inc_base::{Bytes, Label, Memory};
 use inc_fs::{Op, Reply};
 use rand_core::{Rng, SeedableRng};
 use rand_pcg::Pcg32;
-use std::alloc::Global;
-use std::fs::{File, Files, OpenOptions, ReadDir};
-use std::io::{ErrorKind, Write};
+use std::fs::{File, Files, OpenOptions};
+use std::io::{ErrorKind, Read, Write};
 use std::time::Clock;
-use std::{fs, io, str};
+use std::{fs, io};
 
-/// The most bytes of a file that is read.
-const LONGEST: usize = 67_108_864;
+/// The most bytes of a file that is read or copied.
+const LONGEST: u64 = 67_108_864;
 
 /// A folder of the system, whose folders are the crate directories.
 #[derive(Drop)]
 pub struct Folder<R: Drop> {
-    rt: R,
-    root: String,
+    places: Places<R>,
     random: Pcg32,
     draws: Draws,
     handles: Handles,
 }
 
-impl<R: Files<File = File> + AllocGlobal + Clock + Clone + Drop> Folder<R> {
+impl<R: Files<File = File> + AllocGlobal + Clock + Drop> Folder<R> {
     pub fn new(rt: R, root: &str, seed: u64) -> Result<Folder<R>, Memory> {
         let alloc = rt.alloc();
         Ok(Folder {
-            root: String::from_str(alloc, root)?,
+            places: Places::new(rt, root)?,
             random: Pcg32::seed_from_u64(seed),
             draws: Draws::new(alloc),
             handles: Handles::new(alloc),
-            rt,
         })
     }
 
@@ -45,8 +46,17 @@ impl<R: Files<File = File> + AllocGlobal + Clock + Clone + Drop> Folder<R> {
         self.handles.close_all();
     }
 
-    /// Makes a step. The answer is one of its row.
-    pub fn step(&mut self, op: &Op) -> Result<Reply, Trouble>
+    /// Makes a step. The reply is one of its row; where the row has none for what happened, it is the failure.
+    pub fn step(&mut self, op: &Op) -> Result<Result<Reply, Failure>, Memory>
+        ensures { IfOk result (λ answer. IfOk answer (λ reply. IsKindOf op.now reply)) }
+    {
+        match self.attempt(op) {
+            Ok(reply) => Ok(Ok(reply)),
+            Err(stop) => reply_to(self.places.alloc(), op, stop),
+        }
+    }
+
+    fn attempt(&mut self, op: &Op) -> Result<Reply, Stop>
         ensures { IfOk result (λ reply. IsKindOf op.now reply) }
     {
         match op {
@@ -79,299 +89,200 @@ impl<R: Files<File = File> + AllocGlobal + Clock + Clone + Drop> Folder<R> {
         }
     }
 
-    fn draw(&mut self) -> Result<Reply, Trouble>
+    fn draw(&mut self) -> Result<Reply, Stop>
         ensures { IfOk result (λ reply. IsKindOf Draw reply) }
     {
-        let now = self.rt.since_1970()?.as_micros();
+        let now = self.places.rt.since_1970()?.as_micros();
         let Ok(moment) = u64::try_from(now) else {
-            return Err(Trouble::Outside(None));
+            return Err(Stop::Failed(Failure::System(None)));
         };
         let first = self.random.next_u32();
         let (moment, random) = self.draws.draw(moment, first)?;
         Ok(Reply::Drawn(moment, random))
     }
 
-    fn make_lock(&mut self, krate: &Label, entry: &Label) -> Result<Reply, Trouble>
+    fn make_lock(&mut self, krate: &Label, entry: &Label) -> Result<Reply, Stop>
         ensures { IfOk result (λ reply. IsKindOf (MakeLock krate.now entry.now) reply) }
     {
         self.handles.next()?;
-        fs::create_dir_all(&self.rt, self.crate_path(krate)?.as_str())?;
-        match File::create_new(&self.rt, self.entry_path(krate, entry)?.as_str()) {
-            Ok(file) => Ok(Reply::Handle(self.handles.keep(file)?)),
-            Err(e) if e.kind() == ErrorKind::AlreadyExists => Ok(Reply::Exists),
-            Err(e) => Err(e.into()),
-        }
+        let path = below(self.places.made_crate(krate)?, entry)?;
+        let file = File::create_new(&self.places.rt, path.as_str())?;
+        Ok(Reply::Handle(self.handles.keep(file)?))
     }
 
-    fn open_lock(&mut self, krate: &Label, entry: &Label) -> Result<Reply, Trouble>
+    /// A lock is taken on a file that is open for reading alone, too.
+    fn open_lock(&mut self, krate: &Label, entry: &Label) -> Result<Reply, Stop>
         ensures { IfOk result (λ reply. IsKindOf (OpenLock krate.now entry.now) reply) }
     {
         self.handles.next()?;
-        let path = self.entry_path(krate, entry)?;
-        match OpenOptions::new()
-            .read(true)
-            .write(true)
-            .open(&self.rt, path.as_str())
-        {
-            Ok(file) => Ok(Reply::Handle(self.handles.keep(file)?)),
-            Err(e) if is_missing(&e) => Ok(Reply::Missing),
-            Err(e) => Err(e.into()),
-        }
+        let Seen { path, file } = self.places.lock_file(krate, entry)?;
+        let file = self.open(OpenOptions::new().read(true), path.as_str(), file)?;
+        Ok(Reply::Handle(self.handles.keep(file)?))
     }
 
-    fn look(&self, krate: &Label) -> Result<Reply, Trouble>
+    /// Names that are no labels are no entries.
+    fn look(&self, krate: &Label) -> Result<Reply, Stop>
         ensures { IfOk result (λ reply. IsKindOf (Look krate.now) reply) }
     {
-        match fs::read_dir(&self.rt, self.crate_path(krate)?.as_str()) {
-            Ok(entries) => Ok(Reply::Names(labels(self.rt.alloc(), entries)?)),
-            Err(e) if e.kind() == ErrorKind::NotFound => {
-                Ok(Reply::Names(List::new(self.rt.alloc())))
-            }
-            Err(e) => Err(e.into()),
-        }
+        let names = self.names(self.places.crate_folder(krate)?)?;
+        Ok(Reply::Names(names.into_labels()?))
     }
 
-    fn list_dir(&self, krate: &Label, entry: &Label) -> Result<Reply, Trouble>
+    /// Names that are no labels stand in the folder, and can't be listed.
+    fn list_dir(&self, krate: &Label, entry: &Label) -> Result<Reply, Stop>
         ensures { IfOk result (λ reply. IsKindOf (ListDir krate.now entry.now) reply) }
     {
-        match fs::read_dir(&self.rt, self.entry_path(krate, entry)?.as_str()) {
-            Ok(files) => Ok(Reply::Names(labels(self.rt.alloc(), files)?)),
-            Err(e) if is_missing(&e) => Ok(Reply::Missing),
-            Err(e) => Err(e.into()),
+        let names = self.names(self.places.directory(krate, entry)?)?;
+        if names.has_others() {
+            return Err(Stop::Failed(Failure::Name));
         }
+        Ok(Reply::Names(names.into_labels()?))
     }
 
-    fn make_dir(&self, krate: &Label, entry: &Label) -> Result<Reply, Trouble>
+    fn names(&self, mut folder: String) -> Result<Names, Stop> {
+        folder.push('/')?;
+        Names::of(&self.places.rt, self.places.alloc(), folder.as_str())
+    }
+
+    fn make_dir(&self, krate: &Label, entry: &Label) -> Result<Reply, Stop>
         ensures { IfOk result (λ reply. IsKindOf (MakeDir krate.now entry.now) reply) }
     {
-        fs::create_dir_all(&self.rt, self.crate_path(krate)?.as_str())?;
-        match fs::create_dir(&self.rt, self.entry_path(krate, entry)?.as_str()) {
-            Ok(()) => Ok(Reply::Done),
-            Err(e) if e.kind() == ErrorKind::AlreadyExists => Ok(Reply::Exists),
-            Err(e) => Err(e.into()),
-        }
+        let path = below(self.places.made_crate(krate)?, entry)?;
+        fs::create_dir(&self.places.rt, path.as_str())?;
+        Ok(Reply::Done)
     }
 
-    fn link(&self, krate: &Label, from: &Label, to: &Label, file: &Label) -> Result<Reply, Trouble>
+    fn link(&self, krate: &Label, from: &Label, to: &Label, file: &Label) -> Result<Reply, Stop>
         ensures { IfOk result (λ reply. IsKindOf (Link krate.now from.now to.now file.now) reply) }
     {
-        let source = self.file_path(krate, from, file)?;
-        let target = self.file_path(krate, to, file)?;
-        match fs::hard_link(&self.rt, source.as_str(), target.as_str()) {
+        let source = self.places.file(krate, from, file)?;
+        let target = below(self.places.directory(krate, to)?, file)?;
+        match fs::hard_link(&self.places.rt, source.path.as_str(), target.as_str()) {
             Ok(()) => Ok(Reply::Done),
-            Err(e) if is_missing(&e) => Ok(Reply::Missing),
-            Err(e) if e.kind() == ErrorKind::AlreadyExists => Ok(Reply::Exists),
-            Err(_) => match self.copy(source.as_str(), target.as_str()) {
-                Ok(()) => Ok(Reply::Done),
-                Err(e) if is_missing(&e) => Ok(Reply::Missing),
-                Err(e) if e.kind() == ErrorKind::AlreadyExists => Ok(Reply::Exists),
-                Err(e) => Err(e.into()),
-            },
+            Err(e) if is_final(&e) => Err(e.into()),
+            Err(_) => {
+                self.copy(&source, target.as_str())?;
+                Ok(Reply::Done)
+            }
         }
     }
 
     /// Copies a file to a name that nothing has. A copy that stops in the middle is taken away.
-    fn copy(&self, source: &str, target: &str) -> io::Result<()> {
-        let mut from = File::open(&self.rt, source)?;
-        let mut to = File::create_new(&self.rt, target)?;
-        match io::copy(&mut from, &mut to) {
-            Ok(_) => Ok(()),
-            Err(e) => {
-                let _ = fs::remove_file(&self.rt, target);
-                Err(e)
-            }
+    fn copy(&self, source: &Seen, target: &str) -> Result<(), Stop> {
+        if source.file.length > LONGEST {
+            return Err(Stop::Failed(Failure::Length));
         }
+        let from = self.open(
+            OpenOptions::new().read(true),
+            source.path.as_str(),
+            source.file,
+        )?;
+        let mut to = File::create_new(&self.places.rt, target)?;
+        let failure = match io::copy(&mut from.take(LONGEST + 1), &mut to) {
+            Ok(count) if count <= LONGEST => return Ok(()),
+            Ok(_) => Failure::Length,
+            Err(e) => Failure::System(e.raw_os_error()),
+        };
+        let _ = fs::remove_file(&self.places.rt, target);
+        Err(Stop::Failed(failure))
     }
 
-    fn read(&self, krate: &Label, entry: &Label, file: &Label) -> Result<Reply, Trouble>
+    fn read(&self, krate: &Label, entry: &Label, file: &Label) -> Result<Reply, Stop>
         ensures { IfOk result (λ reply. IsKindOf (Read krate.now entry.now file.now) reply) }
     {
-        match File::open(&self.rt, self.file_path(krate, entry, file)?.as_str()) {
-            Ok(file) => {
-                let bytes = read_to(self.rt.alloc(), &mut StdSource::new(Some(file)), LONGEST)?;
-                if bytes.len() > LONGEST {
-                    return Err(Trouble::Outside(None));
-                }
-                Ok(Reply::Bytes(bytes))
-            }
-            Err(e) if is_missing(&e) => Ok(Reply::Missing),
-            Err(e) => Err(e.into()),
+        let Seen { path, file } = self.places.file(krate, entry, file)?;
+        if file.length > LONGEST {
+            return Err(Stop::Failed(Failure::Length));
         }
+        let opened = self.open(OpenOptions::new().read(true), path.as_str(), file)?;
+        let mut bytes = Vec::new(self.places.alloc());
+        if let Err(e) = opened.take(LONGEST + 1).read_to_end(&mut bytes) {
+            return Err(Stop::aside(e));
+        }
+        if bytes.len() as u64 > LONGEST {
+            return Err(Stop::Failed(Failure::Length));
+        }
+        Ok(Reply::Bytes(Bytes::from_vec(bytes)))
     }
 
-    fn create(&self, krate: &Label, entry: &Label, file: &Label) -> Result<Reply, Trouble>
+    fn create(&self, krate: &Label, entry: &Label, file: &Label) -> Result<Reply, Stop>
         ensures { IfOk result (λ reply. IsKindOf (Create krate.now entry.now file.now) reply) }
     {
-        match File::create_new(&self.rt, self.file_path(krate, entry, file)?.as_str()) {
-            Ok(_) => Ok(Reply::Done),
-            Err(e) if is_missing(&e) => Ok(Reply::Missing),
-            Err(e) if e.kind() == ErrorKind::AlreadyExists => Ok(Reply::Exists),
-            Err(e) => Err(e.into()),
-        }
+        let path = below(self.places.directory(krate, entry)?, file)?;
+        drop(File::create_new(&self.places.rt, path.as_str())?);
+        Ok(Reply::Done)
     }
 
+    /// It is opened for reading too, so that opening never waits, whatever came to the name in between.
     fn append(
         &self,
         krate: &Label,
         entry: &Label,
         file: &Label,
         piece: &Bytes,
-    ) -> Result<Reply, Trouble>
+    ) -> Result<Reply, Stop>
         ensures { IfOk result (λ reply. IsKindOf (Append krate.now entry.now file.now piece.now) reply) }
     {
-        let path = self.file_path(krate, entry, file)?;
-        match OpenOptions::new()
-            .append(true)
-            .open(&self.rt, path.as_str())
-        {
-            Ok(mut file) => {
-                file.write_all(piece.as_slice())?;
-                Ok(Reply::Done)
-            }
-            Err(e) if is_missing(&e) => Ok(Reply::Missing),
-            Err(e) => Err(e.into()),
+        let Seen { path, file } = self.places.file(krate, entry, file)?;
+        let mut opened = self.open(
+            OpenOptions::new().read(true).append(true),
+            path.as_str(),
+            file,
+        )?;
+        match opened.write_all(piece.as_slice()) {
+            Ok(()) => Ok(Reply::Done),
+            // Some of it may have been written.
+            Err(e) => Err(Stop::Failed(Failure::System(e.raw_os_error()))),
         }
     }
 
-    fn unlink(&self, krate: &Label, entry: &Label, file: &Label) -> Result<Reply, Trouble>
+    fn open(&self, how: &OpenOptions, path: &str, seen: Plain) -> Result<File, Stop> {
+        open_seen(&self.places.rt, how, path, seen)
+    }
+
+    fn unlink(&self, krate: &Label, entry: &Label, file: &Label) -> Result<Reply, Stop>
         ensures { IfOk result (λ reply. IsKindOf (Unlink krate.now entry.now file.now) reply) }
     {
-        match fs::remove_file(&self.rt, self.file_path(krate, entry, file)?.as_str()) {
-            Ok(()) => Ok(Reply::Done),
-            Err(e) if is_missing(&e) => Ok(Reply::Missing),
-            Err(e) => Err(e.into()),
-        }
+        let seen = self.places.file(krate, entry, file)?;
+        fs::remove_file(&self.places.rt, seen.path.as_str())?;
+        Ok(Reply::Done)
     }
 
-    fn unlink_lock(&self, krate: &Label, entry: &Label) -> Result<Reply, Trouble>
+    fn unlink_lock(&self, krate: &Label, entry: &Label) -> Result<Reply, Stop>
         ensures { IfOk result (λ reply. IsKindOf (UnlinkLock krate.now entry.now) reply) }
     {
-        match fs::remove_file(&self.rt, self.entry_path(krate, entry)?.as_str()) {
-            Ok(()) => Ok(Reply::Done),
-            Err(e) if is_missing(&e) => Ok(Reply::Missing),
-            Err(e) => Err(e.into()),
-        }
+        let seen = self.places.lock_file(krate, entry)?;
+        fs::remove_file(&self.places.rt, seen.path.as_str())?;
+        Ok(Reply::Done)
     }
 
-    fn remove_dir(&self, krate: &Label, entry: &Label) -> Result<Reply, Trouble>
+    fn remove_dir(&self, krate: &Label, entry: &Label) -> Result<Reply, Stop>
         ensures { IfOk result (λ reply. IsKindOf (RemoveDir krate.now entry.now) reply) }
     {
-        match fs::remove_dir(&self.rt, self.entry_path(krate, entry)?.as_str()) {
-            Ok(()) => Ok(Reply::Done),
-            Err(e) if is_missing(&e) => Ok(Reply::Missing),
-            Err(e) if is_taken(&e) => Ok(Reply::NotEmpty),
-            Err(e) => Err(e.into()),
-        }
+        let path = self.places.directory(krate, entry)?;
+        fs::remove_dir(&self.places.rt, path.as_str())?;
+        Ok(Reply::Done)
     }
 
-    fn rename(&self, krate: &Label, from: &Label, to: &Label) -> Result<Reply, Trouble>
+    fn rename(&self, krate: &Label, from: &Label, to: &Label) -> Result<Reply, Stop>
         ensures { IfOk result (λ reply. IsKindOf (Rename krate.now from.now to.now) reply) }
     {
-        let source = self.entry_path(krate, from)?;
-        let target = self.entry_path(krate, to)?;
-        if !self.is_dir(source.as_str())? {
-            return Ok(Reply::Missing);
+        // The new name is looked at first: where another one renames the same directory meanwhile, it is missing.
+        let target = self.places.entry(krate, to)?;
+        let is_taken = thing_at(&self.places.rt, target.as_str())?.is_some();
+        let source = self.places.directory(krate, from)?;
+        if is_taken {
+            return Err(Stop::Taken);
         }
-        if self.is_there(target.as_str())? {
-            return Ok(Reply::Exists);
-        }
-        match fs::rename(&self.rt, source.as_str(), target.as_str()) {
-            Ok(()) => Ok(Reply::Done),
-            Err(e) if e.kind() == ErrorKind::NotFound => Ok(Reply::Missing),
-            Err(e) if is_taken(&e) => Ok(Reply::Exists),
-            Err(e) => Err(e.into()),
-        }
-    }
-
-    fn is_there(&self, path: &str) -> Result<bool, Trouble> {
-        match fs::symlink_metadata(&self.rt, path) {
-            Ok(_) => Ok(true),
-            Err(e) if e.kind() == ErrorKind::NotFound => Ok(false),
-            Err(e) => Err(e.into()),
-        }
-    }
-
-    fn is_dir(&self, path: &str) -> Result<bool, Trouble> {
-        match fs::symlink_metadata(&self.rt, path) {
-            Ok(metadata) => Ok(metadata.is_dir()),
-            Err(e) if e.kind() == ErrorKind::NotFound => Ok(false),
-            Err(e) => Err(e.into()),
-        }
-    }
-
-    fn crate_path(&self, krate: &Label) -> Result<String, Trouble> {
-        let mut path = self.root.clone()?;
-        if !path.is_empty() {
-            path.push('/')?;
-        }
-        push_label(&mut path, krate)?;
-        Ok(path)
-    }
-
-    fn entry_path(&self, krate: &Label, entry: &Label) -> Result<String, Trouble> {
-        let mut path = self.crate_path(krate)?;
-        path.push('/')?;
-        push_label(&mut path, entry)?;
-        Ok(path)
-    }
-
-    fn file_path(&self, krate: &Label, entry: &Label, file: &Label) -> Result<String, Trouble> {
-        let mut path = self.entry_path(krate, entry)?;
-        path.push('/')?;
-        push_label(&mut path, file)?;
-        Ok(path)
+        fs::rename(&self.places.rt, source.as_str(), target.as_str())?;
+        Ok(Reply::Done)
     }
 }
 
-fn push_label(path: &mut String, label: &Label) -> Result<(), Trouble> {
-    let Ok(text) = str::from_utf8(label.bytes()) else {
-        return Err(Trouble::Outside(None));
-    };
-    path.push_str(text)?;
-    Ok(())
-}
-
-/// Nothing of the kind that was asked for has the name.
-fn is_missing(e: &io::Error) -> bool {
+/// Whether no copy is tried in the place of a hard link that the system refused for this.
+fn is_final(e: &io::Error) -> bool {
     matches!(
         e.kind(),
-        ErrorKind::NotFound | ErrorKind::NotADirectory | ErrorKind::IsADirectory
+        ErrorKind::NotFound | ErrorKind::AlreadyExists | ErrorKind::OutOfMemory
     )
-}
-
-/// Something is in the way of a directory.
-fn is_taken(e: &io::Error) -> bool {
-    matches!(
-        e.kind(),
-        ErrorKind::AlreadyExists | ErrorKind::DirectoryNotEmpty | ErrorKind::NotADirectory
-    )
-}
-
-/// The names that are labels, in the order of their bytes.
-fn labels<R: Files + Clone + Drop>(
-    alloc: Global,
-    names: ReadDir<R, Global>,
-) -> Result<List<Label>, Trouble> {
-    let mut found = Vec::new(alloc);
-    for name in names {
-        match name {
-            Ok(name) => {
-                if let Some(label) = Label::of(alloc, name.file_name().as_bytes())? {
-                    found.push(label)?;
-                }
-            }
-            Err(e) if e.kind() == ErrorKind::InvalidFilename => {}
-            Err(e) => return Err(e.into()),
-        }
-    }
-    found.sort()?;
-    listed(alloc, found)
-}
-
-fn listed(alloc: Global, labels: Vec<Label>) -> Result<List<Label>, Trouble> {
-    let mut list = List::new(alloc);
-    for label in labels {
-        list.push(label)?;
-    }
-    Ok(list)
 }

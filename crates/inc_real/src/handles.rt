@@ -2,7 +2,7 @@ ghost use Rattle.std.specs.Prelude.{◌≡◌, ◌≤◌, ◌+◌, ℕ, IfOk};
 ghost use Rattle.inc_fs.specs.Kinds.{IsKindOf};
 ghost use Rattle.inc_fs.specs.declared.op.Op.TheVariants.{TryLock, Close};
 
-use crate::trouble::Trouble;
+use crate::stop::{Failure, Stop};
 use inc_base::Memory;
 use inc_fs::Reply;
 use std::alloc::Global;
@@ -59,7 +59,7 @@ impl Handles {
     }
 
     /// Takes the lock of an open handle, in this mode and no other.
-    pub fn try_lock(&mut self, handle: u32, exclusive: bool) -> Result<Reply, Trouble>
+    pub fn try_lock(&mut self, handle: u32, exclusive: bool) -> Result<Reply, Stop>
         ensures { IfOk result (λ reply. IsKindOf (TryLock handle exclusive) reply) }
     {
         let mode = if exclusive {
@@ -96,7 +96,7 @@ impl Handles {
 impl Handle {
     /// Whether the handle holds the lock in this mode now. Where another one excludes it, it holds what it
     /// held before.
-    fn take(&mut self, mode: Mode) -> Result<bool, Trouble> {
+    fn take(&mut self, mode: Mode) -> Result<bool, Stop> {
         let before = self.mode;
         if before == Some(mode) {
             return Ok(true);
@@ -109,7 +109,7 @@ impl Handle {
         }
         if let Some(old) = before {
             if !grant(&self.file, old)? {
-                return Err(Trouble::Outside(None));
+                return Err(Stop::Failed(Failure::Lock));
             }
             self.mode = before;
         }
@@ -118,7 +118,7 @@ impl Handle {
 }
 
 /// Whether the system grants the lock.
-fn grant(file: &File, mode: Mode) -> Result<bool, Trouble> {
+fn grant(file: &File, mode: Mode) -> Result<bool, Stop> {
     let granted = match mode {
         Mode::Shared => file.try_lock_shared(),
         Mode::Exclusive => file.try_lock(),

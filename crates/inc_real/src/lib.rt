@@ -8,7 +8,12 @@
 mod draws;
 mod folder;
 mod handles;
+mod names;
+mod places;
 mod real;
-mod trouble;
+mod replies;
+mod stop;
+mod things;
 
 pub use real::RealDir;
+pub use stop::Failure;

@@ -1,7 +1,7 @@
 ghost use Rattle.std.specs.Prelude.{◌≡◌, None, [], false, IfOk};
 
 use crate::folder::Folder;
-use crate::trouble::Trouble;
+use crate::stop::Failure;
 use inc_base::{Job, Memory};
 use inc_dir::Dir;
 use inc_fs::{Op, Reply};
@@ -12,19 +12,20 @@ use std::time::Clock;
 /// The directory on a folder of the system: its files, folders, hard links and file locks
 /// (docs/PROTOCOL.md, "The directory on the system's files").
 ///
-/// Contracts see whether a session runs, and the count of faults. It tells nothing. A step whose row doesn't have what the system answers is answered `Fault`, and
-/// counted; the count stands still at the end of `u64`.
+/// Contracts see whether a session runs, and the count of faults. It tells nothing. A step is answered
+/// `Fault`, and counted, where its row doesn't have what the system answers, and where something that no
+/// build makes has a name that the step needs. The count stands still at the end of `u64`.
 ///
 /// This is a trusted edge. Not claimed, since no contract sees the system: what a step does to the
 /// files, and that an answer is true of them; that files last when the machine fails; that nothing comes
-/// between a renaming and the look ahead of it; that pairs differ between processes; that a change of a
-/// held lock's mode that the system fails leaves the old one.
+/// between a look and the call after it; that pairs differ between processes; that a change of a held
+/// lock's mode that the system fails leaves the old one.
 #[derive(Drop)]
 pub struct RealDir<R: Drop> {
     folder: Folder<R>,
     runs: bool,
     faults: u64,
-    failure: Option<i32>,
+    failure: Option<Failure>,
 }
 
 impl<R: Drop> Model for RealDir<R> {
@@ -35,7 +36,7 @@ impl<R: Drop> Model for RealDir<R> {
     ghost view = { λ d. record { runs = d.runs; faults = d.faults } };
 }
 
-impl<R: Files<File = File> + AllocGlobal + Clock + Clone + Drop> RealDir<R> {
+impl<R: Files<File = File> + AllocGlobal + Clock + Drop> RealDir<R> {
     /// The directory of the folder at this path, which need not be there yet; the empty path is the folder
     /// that the process works in. No session runs in it.
     ///
@@ -52,14 +53,13 @@ impl<R: Files<File = File> + AllocGlobal + Clock + Clone + Drop> RealDir<R> {
         })
     }
 
-    /// The system's number of the error at the last step that was answered `Fault`: `None` where there was no
-    /// such step, and where it failed without one.
-    pub fn failure(&self) -> Option<i32> {
+    /// Why the last step that was answered `Fault` was: `None` where there was no such step.
+    pub fn failure(&self) -> Option<Failure> {
         self.failure
     }
 }
 
-impl<R: Files<File = File> + AllocGlobal + Clock + Clone + Drop> Dir for RealDir<R> {
+impl<R: Files<File = File> + AllocGlobal + Clock + Drop> Dir for RealDir<R> {
     ghost told = { λ _. None };
 
     ghost runs = { λ d. d.runs };
@@ -75,13 +75,12 @@ impl<R: Files<File = File> + AllocGlobal + Clock + Clone + Drop> Dir for RealDir
     }
 
     fn act(&mut self, op: Op) -> Result<Reply, Memory> {
-        let reply = match self.folder.step(&op) {
+        let reply = match self.folder.step(&op)? {
             Ok(reply) => reply,
-            Err(Trouble::Outside(failure)) => {
-                self.failure = failure;
+            Err(failure) => {
+                self.failure = Some(failure);
                 Reply::Fault
             }
-            Err(Trouble::Memory) => return Err(Memory),
         };
         if reply.is_fault() {
             self.faults = self.faults.saturating_add(1);

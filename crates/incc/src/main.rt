@@ -16,7 +16,7 @@ ghost use Rattle.incc.specs.Endings.{EndsAs};
 use image::ImageFile;
 use inc_base::{Bytes, Memory, Meter, Sink, StdSink, StdSource, write_all};
 use inc_cli::{OpenPlaces, Status, places, run};
-use inc_real::RealDir;
+use inc_real::{Failure, RealDir};
 use messages::{say, show_usage};
 use patient::Patient;
 use standard::Standard;
@@ -154,11 +154,16 @@ fn text(place: &Option<Bytes>) -> Option<&str> {
     }
 }
 
-/// The error with the system's number, where there is one.
-fn failure_of(number: Option<i32>) -> io::Error {
-    match number {
-        Some(number) => io::Error::from_raw_os_error(number),
-        None => io::Error::other("It failed"),
+/// What is said of a failure of the directory.
+fn failure_of(failure: Option<Failure>) -> io::Error {
+    match failure {
+        Some(Failure::System(Some(number))) => io::Error::from_raw_os_error(number),
+        Some(Failure::Kind) => io::Error::other("Something else has a folder's or a file's name"),
+        Some(Failure::Name) => io::Error::other("A session's folder has a name that isn't a label"),
+        Some(Failure::Length) => io::Error::other("A file is longer than 67,108,864 bytes"),
+        Some(Failure::Changed) => io::Error::other("Something was put in its place meanwhile"),
+        Some(Failure::Lock) => io::Error::other("A lock was lost"),
+        Some(Failure::System(None)) | None => io::Error::other("It failed"),
     }
 }
 
@@ -234,11 +239,21 @@ fn settled<R: Files<File = File> + AllocGlobal + Eprint>(
     }
 }
 
-/// A number of the system's choice, so that sessions of other processes draw other random parts.
-fn seed(rt: &impl RandomSource) -> u64 {
+/// A number of the system's choice and of the clock, so that sessions of other processes draw other random
+/// parts. Where the system gives neither, a session that draws the name of another one finds it taken.
+fn seed<R: RandomSource + Clock>(rt: &R) -> u64 {
     let mut bytes = [0; 8];
-    match rt.fill_bytes(&mut bytes) {
+    let chosen = match rt.fill_bytes(&mut bytes) {
         Ok(()) => u64::from_le_bytes(bytes),
+        Err(_) => 0,
+    };
+    chosen ^ nanoseconds(rt)
+}
+
+/// How many nanoseconds of the clock's second are over, and how many seconds since 1970, one beside the other.
+fn nanoseconds(rt: &impl Clock) -> u64 {
+    match rt.since_1970() {
+        Ok(time) => (time.as_secs() << 30) ^ u64::from(time.subsec_nanos()),
         Err(_) => 0,
     }
 }

@@ -1,0 +1,4 @@
+mod Exact
+mod Tellings
+mod Values
+mod Wholes

@@ -1,0 +1,22 @@
+-- What the code has made ready of a tree.
+use Rattle.std.specs.Prelude.{◌≡◌, ℕ, List, map}
+use Rattle.std.specs.List.{filter_map}
+use Rattle.rs_tree.specs.declared.index.IndexItem.{IndexItem}
+use Rattle.rs_tree.specs.declared.tree.Placed.{Placed}
+use Rattle.rs_lines.specs.Lines.{in_order, printed_all}
+use Rattle.rs_const.specs.Constants.{AreValues}
+use Rattle.rs_queries.specs.declared.known.Known.{Known}
+use Rattle.rs_queries.specs.Diagnosed.{all_lines}
+use Rattle.rs_queries.specs.Known.{answered, entry_of, sig_of}
+
+pub record IsKnown (items : List IndexItem) (placed : List Placed) (k : Known) : Type 0 where
+  pub answers : k.answered.items ≡ map (answered items) placed
+  pub sigs : k.sigs ≡ map (sig_of items) placed
+  pub constants : k.constants ≡ filter_map entry_of (map (answered items) placed)
+  pub values : AreValues k.constants k.values.items
+
+-- what is printed says the lines of items of which this is known
+pub record SaysItems (items : List IndexItem) (placed : List Placed) (out : List ℕ) : Type 0 where
+  pub known : Known
+  pub are : IsKnown items placed known
+  pub says : out ≡ printed_all (in_order (all_lines items known.sigs known.constants known.values.items known.answered.items))

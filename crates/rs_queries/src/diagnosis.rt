@@ -1,0 +1,56 @@
+ghost use Rattle.std.specs.Prelude.{◌≡◌, IfOk};
+ghost use Rattle.rs_lines.specs.Lines.{has_error, in_order};
+ghost use Rattle.rs_queries.specs.Diagnosed.{IsDiagnosis, SaysTree, all_lines};
+ghost use Rattle.rs_queries.specs.State.{SaysItems};
+
+use crate::dead::tell_dead;
+use crate::fault::fault_text;
+use crate::known::{Known, known_of};
+use crate::own::own_lines;
+use inc_base::{Bytes, Memory};
+use rs_lines::Lines;
+use rs_names::index;
+use rs_text::read_text;
+use rs_tree::{Crate, Index, Placed};
+use std::alloc::Global;
+
+/// The diagnostics of a text, each on a line of its own, in order of place, number and text, each once (docs/LANGUAGE.md,
+/// "Diagnostics"): the fault of a text that has no tree; else what is wrong in its items, and, where no line is an error's,
+/// the functions that are never used.
+///
+/// `Memory` where there is none for the tree, for what is known of it, or for the lines.
+pub fn diagnose(alloc: Global, text: &[u8]) -> Result<Bytes, Memory>
+    ensures { IfOk result (IsDiagnosis text.now) }
+{
+    match read_text(alloc, text) {
+        Ok(tree) => tree_text(alloc, &tree),
+        Err(fault) => fault_text(alloc, &fault),
+    }
+}
+
+fn tree_text(alloc: Global, tree: &Crate) -> Result<Bytes, Memory>
+    ensures { IfOk result (SaysTree tree.now) }
+{
+    let index = index(tree)?;
+    indexed_text(alloc, tree.items.as_slice(), &index)
+}
+
+fn indexed_text<'a>(alloc: Global, placed: &'a [Placed], index: &'a Index) -> Result<Bytes, Memory>
+    ensures { IfOk result (SaysItems index.now.items placed.now) }
+{
+    let known = known_of(alloc, placed, index)?;
+    let lines = lines_of(alloc, &*index, &known)?;
+    lines.print(alloc)
+}
+
+// The lines of a tree of which this is known.
+fn lines_of<'a>(alloc: Global, index: &'a Index, known: &'a Known<'_>) -> Result<Lines, Memory>
+    ensures { IfOk result (λ ls. ls.lines ≡ in_order (all_lines index.now.items known.now.sigs known.now.constants known.now.values.items known.now.answered.items)) }
+{
+    let mut lines = own_lines(alloc, index, known)?;
+    if lines.has_error() {
+        return Ok(lines);
+    }
+    tell_dead(alloc, &mut lines, index, &known.answered)?;
+    Ok(lines)
+}

@@ -141,13 +141,6 @@ cond_block cond body s =
     (reads s.typer.scope (leaves (typer.fill s.typer cond))) (stas_reads (context s) (block_of cond body s)) (context s) (arm_end cond body s) [] (declared_all body) s refl
     ∙ ap (checked_block body) (sym (needing_is cond s))
 
-pub checked_while : (cond : Exp path.Path) (body : Stas path.Path) (s : Checker) → checked (While cond body) s ≡ checked_block body (needing cond (at_of cond) s)
-checked_while cond body s =
-    ap (λ n. grown n (cond_wrongs (context s) (typer.fill s.typer cond) ++ stas_wrongs (around s) (context s) (block_of cond body s))
-    (reads s.typer.scope (leaves (typer.fill s.typer cond)) ++ stas_reads (context s) (block_of cond body s)) (arm_end cond body s) (declared_all body) s)
-    (length-append (leaves cond) (stas_leaves body))
-    ∙ cond_block cond body s
-
 block_keeps : (body : Stas Leaf) (c : Context) → Keeps c (outside c (after_all body c))
 block_keeps body c = record { constant = (keeps_all body c).constant; sigs = (keeps_all body c).sigs }
 

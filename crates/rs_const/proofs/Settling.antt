@@ -8,8 +8,9 @@ use Rattle.std.proofs.lemmas.Option.{slice_get-map, slice_get_within}
 use Rattle.rs_tree.specs.declared.answers.Const.{Const}
 use Rattle.rs_tree.specs.declared.answers.Const.TheVariants.{Bad}
 use Rattle.rs_tree.specs.Plain.{definition}
+use Rattle.rs_reach.specs.Reached.{every}
 use Rattle.rs_reach.specs.Search.{Path}
-use Rattle.rs_const.specs.Constants.{Entry, all_of, names, named_by, names_of, number, worth_by, value_at, sigs_of, worth, IsInCycle}
+use Rattle.rs_const.specs.Constants.{Entry, names, named_by, names_of, number, worth_by, value_at, sigs_of, worth, IsInCycle}
 use Rattle.rs_const.specs.State.{Values, Lists, opens, number_at, done, is_done, is_open, is_ready, names_at, AreSettled, AreNames}
 use Rattle.rs_const.proofs.Given.{and_true, given_same, none_at, got_set, got_other, done_set, open_is, done_is, is_done_by, all_in, all_weaker}
 
@@ -42,7 +43,7 @@ module _ (known : List Entry) (its : Lists) (values : Values) (are : AreNames kn
   all = (and_true (is_open values i) (list_all (is_done values) (names_at its i)) ready).1
 
   -- what it reaches is settled
-  reached : (n b : ℕ) → Path (all_of known) (names_of known) (i ∷ []) (suc n) b → is_done values b ≡ true
+  reached : (n b : ℕ) → Path (every known) (names_of known) (i ∷ []) (suc n) b → is_done values b ≡ true
   reached zero b (x, root, (cs, is, inside, m)) =
       let at : i ≡ x = only i x root in
       let here : list_all (is_done values) cs ≡ true = ap (list_all (is_done values)) (sym (names_are known its i cs are (ap (names_of known) at ∙ is))) ∙ all in

@@ -19,6 +19,7 @@ use Rattle.rs_tree.specs.declared.tree.Typ.TheVariants as t
 use Rattle.rs_tree.specs.Plain.{at_of, Exp, Definition, Const as ConstItem, Func, definition}
 use Rattle.rs_tree.specs.Leaves.{filled}
 use Rattle.rs_lookup.specs.Places.{Name, place_name, place_from}
+use Rattle.rs_reach.specs.Reached.{every}
 use Rattle.rs_reach.specs.Search.{Path}
 use Rattle.rs_types.specs.Types.{Context, wrongs, need, type_of}
 use Rattle.rs_value.specs.Value.{Outcome, value, is_zero, number_of}
@@ -45,12 +46,9 @@ named_by ns found = filter_map (named ns) found
 abbrev pub names_of : List Entry → ℕ → Option (List ℕ)
 names_of known i = option_map (λ (e : Entry). named_by (names known) e.2) (slice_get known i)
 
-abbrev pub all_of : {A : Type 0} → List A → List Bool
-all_of xs = map (λ x. true) xs
-
 -- following the constants that expressions name, by one step or more, the constant at a position reaches itself
 abbrev pub IsInCycle : List Entry → ℕ → Type 0
-IsInCycle known i = (n : ℕ) × Path (all_of known) (names_of known) (i ∷ []) (suc n) i
+IsInCycle known i = (n : ℕ) × Path (every known) (names_of known) (i ∷ []) (suc n) i
 
 -- ---- The value of one constant, by those of the others.
 
@@ -125,6 +123,7 @@ pub record AreValues (known : List Entry) (cs : List Const) : Type 0 where
   pub all : length cs ≡ length known
   pub each : (i : ℕ) (c : Const) → slice_get cs i ≡ Some c → IsValue known i c
 
--- the value of the constant at a place, where there is one
-abbrev pub IsValueAt : List Entry → Place → Const → Type 0
-IsValueAt known at c = (i : ℕ) → place_from (place_name at) 0 (names known) ≡ Some i → IsValue known i c
+-- the value of the constant at a place, which is Bad where there is none
+pub record IsValueAt (known : List Entry) (at : Place) (c : Const) : Type 0 where
+  pub value : (i : ℕ) → place_from (place_name at) 0 (names known) ≡ Some i → IsValue known i c
+  pub unknown : place_from (place_name at) 0 (names known) ≡ None → c ≡ k.Bad

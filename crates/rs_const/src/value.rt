@@ -89,7 +89,8 @@ fn unsettled(alloc: Global, its: &[Vec<usize>], at: usize) -> Result<Const, Memo
 }
 
 fn value_at(values: &[Const], at: Option<usize>) -> Const
-    ensures { (i : ℕ) (c : Value) → at ≡ Some i → slice_get values.now i ≡ Some c → result ≡ c }
+    ensures known { (i : ℕ) (c : Value) → at ≡ Some i → slice_get values.now i ≡ Some c → result ≡ c }
+    ensures unknown { at ≡ None → result ≡ Const.Bad }
 {
     match at {
         Some(at) => match values.get(at) {

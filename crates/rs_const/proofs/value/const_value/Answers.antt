@@ -9,13 +9,17 @@ use Rattle.rs_const.proofs.Lists.{place_below}
 use Rattle.rs_const.proofs.value.const_value.Goals as goal
 
 pub returns : goal.returns
-returns c = λ i is.
-    (let known = c.args.known.now in
+returns c =
+    let known = c.args.known.now in
     let values = c.in_ok-values.values.items in
     let are = subst (λ k. AreValues k values) c.as_slice.ensures.value c.in_ok-values.ensures in
     let its = c.in_ok-places.ensures ∙ ap names c.as_slice-2.ensures.value in
-    let found = c.find-found.ensures ∙ (λ j. place_from (c.as_slice-3.ensures.value j, c.as_slice-4.ensures.value j) 0 (its j)) ∙ is in
-    let below = place_below (place_name c.args.at.now) 0 (names known) i is in
-    let inside : i < length values = omega (arith, below, are.all, length-map known (λ (e : Entry). place_name e.0)) in
-    let here = slice_get-get_or values i Bad inside in
-    subst (IsValue known i) (sym (c.value_at.ensures i (get_or values i Bad) found (ap (λ vs. slice_get vs i) c.deref.ensures.value ∙ here))) (are.each i (get_or values i Bad) here))
+    let found = c.find-found.ensures ∙ (λ j. place_from (c.as_slice-3.ensures.value j, c.as_slice-4.ensures.value j) 0 (its j)) in
+    record {
+      value = λ i is.
+          (let below = place_below (place_name c.args.at.now) 0 (names known) i is in
+          let inside : i < length values = omega (arith, below, are.all, length-map known (λ (e : Entry). place_name e.0)) in
+          let here = slice_get-get_or values i Bad inside in
+          subst (IsValue known i) (sym (c.value_at.ensures.known i (get_or values i Bad) (found ∙ is) (ap (λ vs. slice_get vs i) c.deref.ensures.value ∙ here))) (are.each i (get_or values i Bad) here));
+      unknown = λ none. c.value_at.ensures.unknown (found ∙ none);
+    }

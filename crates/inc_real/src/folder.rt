@@ -124,7 +124,8 @@ impl<R: Files<File = File> + AllocGlobal + Clock + Drop> Folder<R> {
     fn look(&self, krate: &Label) -> Result<Reply, Stop>
         ensures { IfOk result (λ reply. IsKindOf (Look krate.now) reply) }
     {
-        let names = self.names(self.places.crate_folder(krate)?)?;
+        let folder = self.places.crate_folder(krate)?;
+        let names = self.names(folder.as_str())?;
         Ok(Reply::Names(names.into_labels()?))
     }
 
@@ -132,16 +133,16 @@ impl<R: Files<File = File> + AllocGlobal + Clock + Drop> Folder<R> {
     fn list_dir(&self, krate: &Label, entry: &Label) -> Result<Reply, Stop>
         ensures { IfOk result (λ reply. IsKindOf (ListDir krate.now entry.now) reply) }
     {
-        let names = self.names(self.places.directory(krate, entry)?)?;
+        let folder = self.places.directory(krate, entry)?;
+        let names = self.names(folder.as_str())?;
         if names.has_others() {
             return Err(Stop::Failed(Failure::Name));
         }
         Ok(Reply::Names(names.into_labels()?))
     }
 
-    fn names(&self, mut folder: String) -> Result<Names, Stop> {
-        folder.push('/')?;
-        Names::of(&self.places.rt, self.places.alloc(), folder.as_str())
+    fn names(&self, folder: &str) -> Result<Names, Stop> {
+        Names::of(&self.places.rt, self.places.alloc(), folder)
     }
 
     fn make_dir(&self, krate: &Label, entry: &Label) -> Result<Reply, Stop>

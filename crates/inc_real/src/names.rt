@@ -15,7 +15,7 @@ pub struct Names {
 }
 
 impl Names {
-    /// The names of the folder at this path, which ends with a slash.
+    /// The names of the folder at this path, which doesn't end with a slash: then a symbolic link isn't followed.
     ///
     /// The system gives the names alone, many at a time; no path is made of any.
     pub fn of<R: Files>(rt: &R, alloc: Global, folder: &str) -> Result<Names, Stop> {

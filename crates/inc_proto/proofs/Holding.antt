@@ -15,13 +15,13 @@ use Rattle.inc_proto.specs.Sought.{IsOnBy, Holds, held}
 use Rattle.inc_proto.proofs.Given.{on_given}
 
 -- who has held the name since this was said last holds it, and says this since,
-held_says : (Says : Steps → Type 0) (steps : Steps) (at : Option ℕ) (since : Option Steps) (from : Option ℕ) → Tells Says steps at → HeldAt since steps from
+pub held_says : (Says : Steps → Type 0) (steps : Steps) (at : Option ℕ) (since : Option Steps) (from : Option ℕ) → Tells Says steps at → HeldAt since steps from
     → HeldBy from at → (after : Steps) × (since ≡ Some after) × Says after
 held_says Says steps at since None told was by = absurd by
 held_says Says steps at since (Some from) told w by = (w.0, w.2, (told w.0 w.1 w.3).1 (subst (IsSince at) (sym w.4) by))
 
 -- and the other way round
-says_held : (Says : Steps → Type 0) (steps : Steps) (at : Option ℕ) (since : Option Steps) (from : Option ℕ) (after : Steps) → Tells Says steps at → HeldAt since steps from
+pub says_held : (Says : Steps → Type 0) (steps : Steps) (at : Option ℕ) (since : Option Steps) (from : Option ℕ) (after : Steps) → Tells Says steps at → HeldAt since steps from
     → since ≡ Some after → Says after → HeldBy from at
 says_held Says steps at since None after told was is says = absurd (none_some (sym was ∙ is))
   where

@@ -1,20 +1,18 @@
 -- What a view keeps of its own steps, brought forward by one more of them.
-use Rattle.std.specs.Prelude.{◌≡◌, ◌⊎◌, ◌↔◌, ◌≤◌, ◌<◌, ◌+◌, ◌==◌, ◌++◌, ℕ, suc, List, [], ◌∷◌, length, drop, take, reverse, Bool, true, false, cond, refl, Option, Some, None, unwrap_or}
-use Rattle.std.proofs.Common.{ap, sym, ◌∙◌, subst, inl, inr, arith, length-append, eq-eqb, get_or}
-use Rattle.std.proofs.lemmas.Bool.{false≢true, ne_eqb}
+use Rattle.std.specs.Prelude.{◌≡◌, ◌⊎◌, ◌<◌, ◌+◌, ◌==◌, ◌++◌, ℕ, List, [], ◌∷◌, length, drop, take, reverse, Bool, true, false, cond, refl, Option, Some, None, unwrap_or}
+use Rattle.std.proofs.Common.{ap, sym, ◌∙◌, subst, inl, inr, arith, eq-eqb, get_or}
+use Rattle.std.proofs.lemmas.Bool.{ne_eqb}
 use Rattle.std.proofs.lemmas.List.{drop_more, length-take-le, length-reverse}
-use Rattle.std.proofs.lemmas.Map.Lookups.{CmpEqualImpliesEq, exact_bytes, exact_pairs}
 use Rattle.std.specs.declared.cmp.Ordering.{Ordering}
 use Rattle.std.specs.Ordering.{nat_cmp, is_eq}
-use Rattle.std.specs.Cmp.{IsTotalOrder, tied_itself, then_total, on_total, nat_cmp_total}
-use Rattle.std.specs.Cmp.Lexicographic.{nat_list_cmp_total}
+use Rattle.std.specs.Cmp.{nat_cmp_total}
 use Rattle.std.specs.Map.{lookup}
 use Rattle.std.specs.BTreeMap.{insert_entry, is_at}
-use Rattle.inc_fs.specs.Lists.{IsIn, remove_entry}
-use Rattle.inc_fs.specs.Lookups.{lookup_here, lookup_there, removed_there, same_or_apart, path_cmp_total, same_paths, same_numbers}
-use Rattle.inc_fs.specs.Paths.{Text, Path, text_cmp, path_cmp}
+use Rattle.inc_fs.specs.Lists.{IsIn}
+use Rattle.inc_fs.specs.Lookups.{path_cmp_total, same_paths, same_numbers}
+use Rattle.inc_fs.specs.Paths.{Text, Path, path_cmp}
 use Rattle.inc_fs.specs.declared.op.Op.{Op}
-use Rattle.inc_fs.specs.declared.op.Op.TheVariants.{Draw, MakeLock, OpenLock, TryLock, Look, ListDir, Close}
+use Rattle.inc_fs.specs.declared.op.Op.TheVariants.{Draw, MakeLock, OpenLock, TryLock, Look, ListDir, UnlinkLock, Close}
 use Rattle.inc_fs.specs.declared.op.Reply.{Reply}
 use Rattle.inc_fs.specs.declared.op.Reply.TheVariants.{Handle, Names, Got, Done, Fault}
 use Rattle.inc_proto.specs.declared.holds.Turn.{Turn}
@@ -25,11 +23,14 @@ use Rattle.inc_proto.specs.declared.index.Handed.{Handed}
 use Rattle.inc_proto.specs.declared.index.Hold.{Hold}
 use Rattle.inc_proto.specs.declared.index.Index.{Index}
 use Rattle.inc_proto.specs.Events.{Steps}
-use Rattle.inc_proto.specs.Indexes.{opening_of, handle_of, handed_by, hold_by, kept_hold, holds_by, from_of, HeldAt, IsHold, AreHolds, handles_of, put_given, given_by, AreGiven, IsSince, Tells, put_all, file_cmp, listed_by, AreListed, looked_by, AreLooked, index_after, Indexes}
+use Rattle.inc_proto.specs.Indexes.{asked_by, AreAsked, made_by, unlinked_by, AreUnlinked, IsBack, AreBack, IsBackBy, AreNewest, IsNewestBy, opening_of, handle_of, handed_by, hold_by, kept_hold, holds_by, from_of, HeldAt, IsHold, AreHolds, handles_of, put_given, given_by, AreGiven, Tells, put_all, file_cmp, listed_by, AreListed, looked_by, AreLooked, Indexes}
 use Rattle.inc_proto.specs.Sought.{held, turn_of, turned, turned_at}
-use Rattle.inc_proto.specs.Views.{Opening, opening, opening_after, begun, grown, HasAny, IsLook, IsListing}
+use Rattle.inc_proto.specs.Views.{Opening, opening, opening_after, begun, grown, HasAny, IsLook, IsListing, IsTry, IsMakeDir, IsDone, HasTriedDir}
 use Rattle.inc_proto.specs.Views.Opening.{Made, Opened}
+use Rattle.inc_names.specs.Entries.{lock_text}
 use Rattle.inc_proto.proofs.Anys.{in_left, in_end, next_first}
+use Rattle.inc_proto.proofs.Lasts.{asked_next, made_next, unlinked_next, back_next, newest_next, nothing_told, newest_none, newest_before}
+use Rattle.inc_proto.proofs.Tells.{one_more, itself, set_here, set_there, puts, told_before, any_same, any_now, any_still, file_cmp_total, path_exact, file_exact}
 
 -- the place of a step that is about to be made
 abbrev place : Op × Reply
@@ -37,41 +38,6 @@ place = (Draw, Fault)
 
 none_some : {A : Type 0} {x : A} → None ≡ Some x → ⊥
 none_some is = cc
-
--- ---- Keys that are set.
-
-module _ {K : Type 0} (R : K → K → Ordering) (total : IsTotalOrder R) where
-  itself : (k : K) → is_eq (R k k) ≡ false → ⊥
-  itself k apart = false≢true (sym apart ∙ ap is_eq (tied_itself total k))
-
-  pub set_here : {V : Type 0} (es : List (K × V)) (k : K) (v : V) → lookup (is_at (R k)) (insert_entry R (remove_entry (is_at (R k)) es) k v) ≡ Some v
-  set_here es k v = lookup_here R total (remove_entry (is_at (R k)) es) k v
-
-  pub set_there : {V : Type 0} (es : List (K × V)) (k q : K) (v : V) → is_eq (R q k) ≡ false
-      → lookup (is_at (R q)) (insert_entry R (remove_entry (is_at (R k)) es) k v) ≡ lookup (is_at (R q)) es
-  set_there es k q v apart = lookup_there R total (remove_entry (is_at (R k)) es) k q v apart ∙ removed_there R total es k q apart
-
-  -- each key is one of those that were put, or finds what it found
-  pub puts : CmpEqualImpliesEq R → (key : Text → K) (at : ℕ) (names : List Text) (es : List (K × ℕ)) (q : K)
-      → ((name : Text) × IsIn names name × (key name ≡ q) × (lookup (is_at (R q)) (put_all R key at names es) ≡ Some at))
-      ⊎ (((name : Text) → IsIn names name → key name ≡ q → ⊥) × (lookup (is_at (R q)) (put_all R key at names es) ≡ lookup (is_at (R q)) es))
-  puts exact key at [] es q = inr (λ name is same. absurd is, refl)
-  puts exact key at (name ∷ names) es q = go (puts exact key at names (insert_entry R es (key name) at) q) (same_or_apart R exact q (key name))
-    where
-      go : ((x : Text) × IsIn names x × (key x ≡ q) × (lookup (is_at (R q)) (put_all R key at names (insert_entry R es (key name) at)) ≡ Some at))
-          ⊎ (((x : Text) → IsIn names x → key x ≡ q → ⊥)
-          × (lookup (is_at (R q)) (put_all R key at names (insert_entry R es (key name) at)) ≡ lookup (is_at (R q)) (insert_entry R es (key name) at)))
-          → (q ≡ key name) ⊎ (is_eq (R q (key name)) ≡ false)
-          → ((x : Text) × IsIn (name ∷ names) x × (key x ≡ q) × (lookup (is_at (R q)) (put_all R key at (name ∷ names) es) ≡ Some at))
-          ⊎ (((x : Text) → IsIn (name ∷ names) x → key x ≡ q → ⊥) × (lookup (is_at (R q)) (put_all R key at (name ∷ names) es) ≡ lookup (is_at (R q)) es))
-      go (inl w) same = inl (w.0, inr w.1, w.2, w.3)
-      go (inr w) (inl same) =
-          inl (name, inl refl, sym same, w.1 ∙ subst (λ k. lookup (is_at (R q)) (insert_entry R es k at) ≡ Some at) same (lookup_here R total es q at))
-      go (inr w) (inr apart) = inr (off, w.1 ∙ lookup_there R total es (key name) q at apart)
-        where
-          off : (x : Text) → IsIn (name ∷ names) x → key x ≡ q → ⊥
-          off x (inl is) same = itself q (subst (λ k. is_eq (R q k) ≡ false) (ap key is ∙ same) apart)
-          off x (inr is) same = w.0 x is same
 
 -- ---- What a handle holds.
 
@@ -189,10 +155,6 @@ given_more path h given q k any = go (same_paths q path) any
         now (inl is) = absurd (itself path_cmp path_cmp_total q (subst (λ p. is_eq (path_cmp q p) ≡ false) is.0 apart))
         now (inr is) = is
 
-one_more : {A B C : Type 0} → (A → C) → (B → C) → A ⊎ B → C
-one_more f g (inl a) = f a
-one_more f g (inr b) = g b
-
 given_next : (step : Op × Reply) (steps : Steps) (given : List (Path × List ℕ)) → AreGiven steps given → AreGiven (step ∷ steps) (given_by step given)
 given_next (MakeLock k e, Handle handle) steps given told q h any =
     given_more (k, e) handle given q h (one_more (λ is. inl (λ i. (is.0 i, is.1 i), is.2)) (λ more. inr (told q h more)) any)
@@ -200,64 +162,7 @@ given_next (OpenLock k e, Handle handle) steps given told q h any =
     given_more (k, e) handle given q h (one_more (λ is. inl (λ i. (is.0 i, is.1 i), is.2)) (λ more. inr (told q h more)) any)
 given_next step steps given told q h any = one_more (λ is. absurd is) (told q h) any
 
--- ---- When a thing was said last.
-
--- now,
-told_now : (Says : Steps → Type 0) (step : Op × Reply) (steps : Steps) → (Says [] → ⊥) → ((after : Steps) → Says (step ∷ after))
-    → Tells Says (step ∷ steps) (Some (length steps))
-told_now Says step steps none now [] before is = (λ says. absurd (none says), λ le. absurd (past (length steps) (length before) (ap length is) le))
-  where
-    past : (n m : ℕ) → suc n ≡ m → m ≤ n → ⊥
-    past n m same le = omega arith
-told_now Says step steps none now (x ∷ after) before is =
-    let same : step ≡ x = cc in
-    let rest : steps ≡ after ++ before = ap (drop 1) is in
-    let count = ap length rest ∙ length-append after before in
-    (λ says. within (length steps) (length after) (length before) count, λ le. subst (λ s. Says (s ∷ after)) same (now after))
-  where
-    within : (n a b : ℕ) → n ≡ a + b → b ≤ n
-    within n a b same = omega arith
-
-since_less : (at : Option ℕ) (from : ℕ) → IsSince at (suc from) → IsSince at from
-since_less None from is = is
-since_less (Some at) from is = omega arith
-
--- or not now
-told_still : (Says : Steps → Type 0) (step : Op × Reply) (steps : Steps) (at : Option ℕ) → (Says [] → ⊥) → ((after : Steps) → Says (step ∷ after) ↔ Says after)
-    → Tells Says steps at → Tells Says (step ∷ steps) at
-told_still Says step steps at none same told [] before is =
-    (λ says. absurd (none says), λ since. absurd (none ((told [] steps refl).1 (since_less at (length steps) (subst (λ ss. IsSince at (length ss)) (sym is) since)))))
-told_still Says step steps at none same told (x ∷ after) before is =
-    let first : step ≡ x = cc in
-    let rest : steps ≡ after ++ before = ap (drop 1) is in (
-      λ says. (told after before rest).0 ((same after).0 (subst (λ s. Says (s ∷ after)) (sym first) says)),
-      λ since. subst (λ s. Says (s ∷ after)) first ((same after).1 ((told after before rest).1 since)),
-    )
-
--- and so before
-told_before : (Says : Steps → Type 0) (step : Op × Reply) (steps : Steps) (at : Option ℕ) → ((after : Steps) → Says (step ∷ after) ↔ Says after)
-    → Tells Says (step ∷ steps) at → Tells Says steps at
-told_before Says step steps at same told after before is =
-    let now = told (step ∷ after) before (ap (λ ss. step ∷ ss) is) in
-    (λ says. now.0 ((same after).1 says), λ since. (same after).0 (now.1 since))
-
-any_same : (P : Op × Reply → Type 0) (step : Op × Reply) → (P step → ⊥) → (after : Steps) → HasAny P (step ∷ after) ↔ HasAny P after
-any_same P step off after = (one_more (λ is. absurd (off is)) (λ any. any), inr)
-
-any_now : (P : Op × Reply → Type 0) (step : Op × Reply) (steps : Steps) → P step → Tells (HasAny P) (step ∷ steps) (Some (length steps))
-any_now P step steps is = told_now (HasAny P) step steps (λ none. none) (λ after. inl is)
-
-any_still : (P : Op × Reply → Type 0) (step : Op × Reply) (steps : Steps) (at : Option ℕ) → (P step → ⊥) → Tells (HasAny P) steps at → Tells (HasAny P) (step ∷ steps) at
-any_still P step steps at off told = told_still (HasAny P) step steps at (λ none. none) (any_same P step off) told
-
-file_cmp_total : IsTotalOrder file_cmp
-file_cmp_total = then_total {R = λ x y. path_cmp x.0 y.0} {S = λ x y. text_cmp x.1 y.1} (on_total (λ p. p.0) path_cmp_total) (on_total (λ p. p.1) nat_list_cmp_total)
-
-path_exact : CmpEqualImpliesEq path_cmp
-path_exact = exact_pairs text_cmp text_cmp exact_bytes exact_bytes
-
-file_exact : CmpEqualImpliesEq file_cmp
-file_exact = exact_pairs path_cmp text_cmp path_exact exact_bytes
+-- ---- What was listed.
 
 listed_next : (step : Op × Reply) (steps : Steps) (places : List ((Path × Text) × ℕ)) → AreListed steps places → AreListed (step ∷ steps) (listed_by step (length steps) places)
 listed_next (ListDir k e, Names names) steps places told q = go (puts file_cmp file_cmp_total file_exact (λ file. ((k, e), file)) (length steps) names places q)
@@ -307,29 +212,39 @@ looked_next step steps places told q = any_still (IsLook q.0 q.1) step steps (lo
 -- ---- All of it.
 
 -- of no steps nothing is kept
-pub indexes_none : (index : Index) → index.holds ≡ [] → index.given ≡ [] → index.listed ≡ [] → index.looked ≡ [] → Indexes [] index
-indexes_none index h g l k = record {
+pub indexes_none : (index : Index) → index.holds ≡ [] → index.given ≡ [] → index.listed ≡ [] → index.looked ≡ [] → index.asked ≡ [] → index.made ≡ None
+    → index.unlinked ≡ [] → index.back ≡ [] → index.newest ≡ [] → Indexes [] index
+indexes_none index h g l k a m u b n = record {
   holds = subst (AreHolds []) (sym h) (λ h. record { opened = refl; held_at = both h });
   given = λ q h any. absurd any;
-  listed = subst (AreListed []) (sym l) (λ q. nothing (IsListing q.0.0 q.0.1 q.1));
-  looked = subst (AreLooked []) (sym k) (λ q. nothing (IsLook q.0 q.1));
+  listed = subst (AreListed []) (sym l) (λ q. nothing_told (IsListing q.0.0 q.0.1 q.1));
+  looked = subst (AreLooked []) (sym k) (λ q. nothing_told (IsLook q.0 q.1));
+  asked = subst (AreAsked []) (sym a) (λ q. nothing_told (IsTry (MakeLock q.0 q.1)));
+  made = subst (Tells HasTriedDir []) (sym m) (nothing_told IsMakeDir);
+  unlinked = subst (AreUnlinked []) (sym u) (λ q. nothing_told (IsDone (UnlinkLock q.0 q.1)));
+  back = subst (AreBack []) (sym b) (λ krate entry n named. nothing_told (IsBack krate entry n));
+  newest = subst (AreNewest []) (sym n) newest_none;
 }
   where
     both : (h : ℕ) (way : Way) → HeldAt (held way h []) [] (from_of way (kept_hold None))
     both h Alone = refl
     both h ByOpening = refl
 
-    nothing : (P : Op × Reply → Type 0) → Tells (HasAny P) [] None
-    nothing P [] before is = (λ none. none, λ none. none)
-    nothing P (x ∷ after) before is = absurd (cc)
-
 -- one more step
-pub indexed : (step : Op × Reply) (steps : Steps) (index : Index) → Indexes steps index → Indexes (step ∷ steps) (index_after step (length steps) index)
-indexed step steps index was = record {
-  holds = holds_next step steps index.holds was.holds;
-  given = given_next step steps index.given was.given;
-  listed = listed_next step steps index.listed was.listed;
-  looked = looked_next step steps index.looked was.looked;
+pub indexed : (step : Op × Reply) (steps : Steps) (old new : Index) → new.holds ≡ holds_by step (length steps) (handle_of step) old.holds → new.given ≡ given_by step old.given
+    → new.listed ≡ listed_by step (length steps) old.listed → new.looked ≡ looked_by step (length steps) old.looked → new.asked ≡ asked_by step (length steps) old.asked
+    → new.made ≡ made_by step (length steps) old.made → new.unlinked ≡ unlinked_by step (length steps) old.unlinked → IsBackBy step (length steps) old.back new.back
+    → IsNewestBy step old.newest new.newest → Indexes steps old → Indexes (step ∷ steps) new
+indexed step steps old new h g l k a m u b n was = record {
+  holds = subst (AreHolds (step ∷ steps)) (sym h) (holds_next step steps old.holds was.holds);
+  given = subst (AreGiven (step ∷ steps)) (sym g) (given_next step steps old.given was.given);
+  listed = subst (AreListed (step ∷ steps)) (sym l) (listed_next step steps old.listed was.listed);
+  looked = subst (AreLooked (step ∷ steps)) (sym k) (looked_next step steps old.looked was.looked);
+  asked = subst (AreAsked (step ∷ steps)) (sym a) (asked_next step steps old.asked was.asked);
+  made = subst (Tells HasTriedDir (step ∷ steps)) (sym m) (made_next step steps old.made was.made);
+  unlinked = subst (AreUnlinked (step ∷ steps)) (sym u) (unlinked_next step steps old.unlinked was.unlinked);
+  back = back_next step steps old.back new.back b was.back;
+  newest = newest_next step steps old.newest new.newest n was.newest;
 }
 
 held_back : (since : Option Steps) (steps : Steps) (from : Option ℕ) → HeldAt (grown place since) (place ∷ steps) from → HeldAt since steps from
@@ -345,17 +260,29 @@ pub index_without_place : (steps : Steps) (index : Index) → Indexes (place ∷
 index_without_place steps index was = record {
   holds = λ h. record { opened = (was.holds h).opened; held_at = back h };
   given = λ q h any. was.given q h (inr any);
-  listed = λ q. told_before (HasAny (IsListing q.0.0 q.0.1 q.1)) place steps (lookup (is_at (file_cmp q)) index.listed) (any_same (IsListing q.0.0 q.0.1 q.1) place (λ is. is)) (was.listed q);
-  looked = λ q. told_before (HasAny (IsLook q.0 q.1)) place steps (lookup (is_at (path_cmp q)) index.looked) (any_same (IsLook q.0 q.1) place (λ is. is)) (was.looked q);
+  listed = λ q. before (IsListing q.0.0 q.0.1 q.1) (lookup (is_at (file_cmp q)) index.listed) (λ is. is) (was.listed q);
+  looked = λ q. before (IsLook q.0 q.1) (lookup (is_at (path_cmp q)) index.looked) (λ is. is) (was.looked q);
+  asked = λ q. before (IsTry (MakeLock q.0 q.1)) (lookup (is_at (path_cmp q)) index.asked) no_asking (was.asked q);
+  made = before IsMakeDir index.made (λ is. is) was.made;
+  unlinked = λ q. before (IsDone (UnlinkLock q.0 q.1)) (lookup (is_at (path_cmp q)) index.unlinked) (λ is. is) (was.unlinked q);
+  back = λ krate entry n named.
+      before (IsBack krate entry n) (lookup (is_at (file_cmp ((krate, entry), lock_text n))) index.back) (λ is. is.2) (was.back krate entry n named);
+  newest = newest_before place steps index.newest (λ krate entry is. is) was.newest;
 }
   where
+    before : (P : Op × Reply → Type 0) (at : Option ℕ) → (P place → ⊥) → Tells (HasAny P) (place ∷ steps) at → Tells (HasAny P) steps at
+    before P at off = told_before (HasAny P) place steps at (any_same P place off)
+
+    no_asking : {krate entry : Text} → IsTry (MakeLock krate entry) place → ⊥
+    no_asking is = cc
+
     back : (h : ℕ) (way : Way) → HeldAt (held way h steps) steps (from_of way (kept_hold (lookup (is_at (nat_cmp h)) index.holds)))
     back h Alone = held_back (held Alone h steps) steps _ ((was.holds h).held_at Alone)
     back h ByOpening = held_back (held ByOpening h steps) steps _ ((was.holds h).held_at ByOpening)
 
 -- whether it is there or not
 pub index_with_place : (steps : Steps) (index : Index) → Indexes steps index → Indexes (place ∷ steps) index
-index_with_place steps index was = indexed place steps index was
+index_with_place steps index was = indexed place steps index index refl refl refl refl refl refl refl refl refl was
 
 -- ---- The same, as the code comes to it.
 
@@ -367,10 +294,15 @@ put_next R key at names i name k old new within same key_is is =
     ap (put_all R key at (drop (i + 1) names)) (is ∙ ap (λ k. insert_entry R old k at) (key_is ∙ ap key same))
     ∙ sym (ap (λ ns. put_all R key at ns old) (drop_more names i name within))
 
-pub indexed_as : (step : Op × Reply) (steps : Steps) (at : ℕ) (index next : Index) → at ≡ length steps → next ≡ index_after step at index → Indexes steps index
-    → Indexes (step ∷ steps) next
-indexed_as step steps at index next count is was =
-    subst (Indexes (step ∷ steps)) (sym (is ∙ ap (λ n. index_after step n index) count)) (indexed step steps index was)
+-- the same, of the place that the code has counted
+pub indexed_as : (step : Op × Reply) (steps : Steps) (at : ℕ) (old new : Index) → new.holds ≡ holds_by step at (handle_of step) old.holds → new.given ≡ given_by step old.given
+    → new.listed ≡ listed_by step at old.listed → new.looked ≡ looked_by step at old.looked → new.asked ≡ asked_by step at old.asked → new.made ≡ made_by step at old.made
+    → new.unlinked ≡ unlinked_by step at old.unlinked → IsBackBy step at old.back new.back → IsNewestBy step old.newest new.newest → at ≡ length steps → Indexes steps old
+    → Indexes (step ∷ steps) new
+indexed_as step steps at old new h g l k a m u b n count was =
+    indexed step steps old new (h ∙ ap (λ n. holds_by step n (handle_of step) old.holds) count) g (l ∙ ap (λ n. listed_by step n old.listed) count)
+    (k ∙ ap (λ n. looked_by step n old.looked) count) (a ∙ ap (λ n. asked_by step n old.asked) count) (m ∙ ap (λ n. made_by step n old.made) count)
+    (u ∙ ap (λ n. unlinked_by step n old.unlinked) count) (subst (λ n. IsBackBy step n old.back new.back) count b) n was
 
 -- the index of one more of the steps
 pub indexed_next : (xs : Steps) (i : ℕ) (x : Op × Reply) (index next : Index) → i < length xs → x ≡ get_or xs i x → Indexes (reverse (take i xs)) index

@@ -4,6 +4,8 @@ pub mod Anys
 pub mod Brought
 pub mod Complete
 pub mod Helds
+pub mod Tells
+pub mod Lasts
 pub mod Indexed
 pub mod Holding
 pub mod Given

@@ -229,12 +229,11 @@ unnamed o p none is some = none_some (sym none ∙ is ∙ some)
 abbrev pub IsFirstLock : Job → Steps → Text → Text → SessionName → Type 0
 IsFirstLock job steps krate entry n = (krate ≡ job.krate) × (entry ≡ lock_text n) × (¬ HasTried (MakeLock krate entry) steps)
 
-pub first_lock : (job : Job) (steps : Steps) (krate entry : Text) (n : SessionName) → name steps ≡ Some n → (b : Bool)
-    → IsTrue b ↔ IsFirstLock job steps krate entry n → IsTrue b ↔ MayMakeLock job steps krate entry
-first_lock job steps krate entry n named b f = (
-  λ t. let w = f.0 t in (n, named, w.0, w.1, w.2),
-  λ w. f.1 (w.2, w.3 ∙ ap lock_text (some_same w.0 n (sym w.1 ∙ named)), w.4),
-)
+pub may_make_lock : (job : Job) (steps : Steps) (krate entry : Text) (n : SessionName) → name steps ≡ Some n → IsFirstLock job steps krate entry n → MayMakeLock job steps krate entry
+may_make_lock job steps krate entry n named w = (n, named, w.0, w.1, w.2)
+
+pub lock_is_first : (job : Job) (steps : Steps) (krate entry : Text) (n : SessionName) → name steps ≡ Some n → MayMakeLock job steps krate entry → IsFirstLock job steps krate entry n
+lock_is_first job steps krate entry n named w = (w.2, w.3 ∙ ap lock_text (some_same w.0 n (sym w.1 ∙ named)), w.4)
 
 abbrev pub IsFirstDir : Job → Steps → Text → Text → SessionName → Type 0
 IsFirstDir job steps krate entry n = (krate ≡ job.krate) × (entry ≡ working_text n) × (¬ HasTriedDir steps)

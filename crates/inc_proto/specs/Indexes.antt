@@ -1,6 +1,6 @@
 -- What a view keeps of its own steps, so that questions cost look-ups, brought forward by each of them. A step's place is
 -- the number of steps before it.
-use Rattle.std.specs.Prelude.{◌≡◌, ℕ, ◌≤◌, ◌++◌, ◌↔◌, List, [], ◌∷◌, length, Option, Some, None, unwrap_or}
+use Rattle.std.specs.Prelude.{◌≡◌, ◌≢◌, ℕ, ◌≤◌, ◌<◌, ◌++◌, ◌↔◌, ◌⊎◌, List, [], ◌∷◌, length, Option, Some, None, unwrap_or}
 use Rattle.std.specs.declared.cmp.Ordering.{Ordering}
 use Rattle.std.specs.Ordering.{nat_cmp, ordering_then}
 use Rattle.std.specs.Map.{lookup}
@@ -8,9 +8,13 @@ use Rattle.std.specs.BTreeMap.{insert_entry, is_at}
 use Rattle.inc_fs.specs.Lists.{IsIn, remove_entry}
 use Rattle.inc_fs.specs.Paths.{Text, Path, text_cmp, path_cmp}
 use Rattle.inc_fs.specs.declared.op.Op.{Op}
-use Rattle.inc_fs.specs.declared.op.Op.TheVariants.{MakeLock, OpenLock, TryLock, Look, ListDir, Close}
+use Rattle.inc_fs.specs.declared.op.Op.TheVariants.{MakeLock, OpenLock, TryLock, Look, ListDir, MakeDir, UnlinkLock, Rename, Close}
 use Rattle.inc_fs.specs.declared.op.Reply.{Reply}
 use Rattle.inc_fs.specs.declared.op.Reply.TheVariants.{Handle, Names, Got, Done}
+use Rattle.inc_names.specs.declared.session.SessionName.{SessionName}
+use Rattle.inc_names.specs.Entries.{lock_text, final_text, IsSessionName, IsNewer}
+use Rattle.inc_proto.specs.Asked.{HasNewer}
+use Rattle.inc_proto.specs.Permits.{IsHash}
 use Rattle.inc_proto.specs.declared.holds.Way.{Way}
 use Rattle.inc_proto.specs.declared.holds.Way.TheVariants.{Alone, ByOpening}
 use Rattle.inc_proto.specs.declared.index.Handed.{Handed}
@@ -21,7 +25,7 @@ use Rattle.inc_proto.specs.declared.index.Told.{Told}
 use Rattle.inc_proto.specs.declared.index.Told.TheVariants.{At, Untold}
 use Rattle.inc_proto.specs.Events.{Steps}
 use Rattle.inc_proto.specs.Sought.{IsOnBy, IsGiven, held, turn_of, turned_at}
-use Rattle.inc_proto.specs.Views.{Opening, opening, HasAny, IsLook, IsListing}
+use Rattle.inc_proto.specs.Views.{Opening, opening, HasAny, IsLook, IsListing, IsDone, HasTried, HasTriedDir, HasDone}
 use Rattle.inc_proto.specs.Views.Opening.{Made, Opened}
 
 -- ---- What a handle holds.
@@ -133,15 +137,75 @@ looked_by step at places = places
 abbrev pub AreLooked : Steps → List (Path × ℕ) → Type 0
 AreLooked steps places = (q : Path) → Tells (HasAny (IsLook q.0 q.1)) steps (lookup (is_at (path_cmp q)) places)
 
--- ---- All of it.
+-- ---- What it asked for, or did, last.
 
-abbrev pub index_after : Op × Reply → ℕ → Index → Index
-index_after step at index = record index {
-  holds = holds_by step at (handle_of step) index.holds;
-  given = given_by step index.given;
-  listed = listed_by step at index.listed;
-  looked = looked_by step at index.looked;
-}
+-- it asked for this lock file
+abbrev pub asked_by : Op × Reply → ℕ → List (Path × ℕ) → List (Path × ℕ)
+asked_by (MakeLock krate entry, reply) at places = insert_entry path_cmp places (krate, entry) at
+asked_by step at places = places
+
+abbrev pub AreAsked : Steps → List (Path × ℕ) → Type 0
+AreAsked steps places = (q : Path) → Tells (HasTried (MakeLock q.0 q.1)) steps (lookup (is_at (path_cmp q)) places)
+
+-- it asked for a directory
+abbrev pub made_by : Op × Reply → ℕ → Option ℕ → Option ℕ
+made_by (MakeDir krate entry, reply) at place = Some at
+made_by step at place = place
+
+-- it took this lock file's name away
+abbrev pub unlinked_by : Op × Reply → ℕ → List (Path × ℕ) → List (Path × ℕ)
+unlinked_by (UnlinkLock krate entry, Done) at places = insert_entry path_cmp places (krate, entry) at
+unlinked_by step at places = places
+
+abbrev pub AreUnlinked : Steps → List (Path × ℕ) → Type 0
+AreUnlinked steps places = (q : Path) → Tells (HasDone (UnlinkLock q.0 q.1)) steps (lookup (is_at (path_cmp q)) places)
+
+-- it renamed a finalised directory of n to this name
+abbrev pub IsBack : Text → Text → SessionName → Op × Reply → Type 0
+IsBack krate entry n step = (hash : ℕ) × IsHash hash × IsDone (Rename krate (final_text n hash) entry) step
+
+-- kept under the path of the new name and n's lock file
+abbrev pub AreBack : Steps → List ((Path × Text) × ℕ) → Type 0
+AreBack steps places =
+    (krate entry : Text) (n : SessionName) → IsSessionName n
+    → Tells (HasAny (IsBack krate entry n)) steps (lookup (is_at (file_cmp ((krate, entry), lock_text n))) places)
+
+-- these are the places once a directory was renamed so
+abbrev pub IsBackWith : Text → Text → Text → ℕ → List ((Path × Text) × ℕ) → List ((Path × Text) × ℕ) → Type 0
+IsBackWith krate from to at old new =
+    ((n : SessionName) × (hash : ℕ) × IsSessionName n × IsHash hash × (from ≡ final_text n hash) × (new ≡ insert_entry file_cmp old ((krate, to), lock_text n) at))
+    ⊎ (((n : SessionName) (hash : ℕ) → IsSessionName n → IsHash hash → from ≢ final_text n hash) × (new ≡ old))
+
+abbrev pub IsBackBy : Op × Reply → ℕ → List ((Path × Text) × ℕ) → List ((Path × Text) × ℕ) → Type 0
+IsBackBy (Rename krate from to, Done) at old new = IsBackWith krate from to at old new
+IsBackBy step at old new = new ≡ old
+
+-- ---- The newest finalised directory that was listed in a crate directory.
+
+-- this is a newer one than n's
+abbrev pub IsNewerOf : Option SessionName → SessionName → Type 0
+IsNewerOf None n = ⊥
+IsNewerOf (Some m) n = IsNewer m n
+
+-- one of these names is that of a finalised directory newer than n's
+abbrev pub ListsNewer : List Text → SessionName → Type 0
+ListsNewer names n = (m : SessionName) × (hash : ℕ) × IsSessionName m × IsHash hash × IsIn names (final_text m hash) × IsNewer m n
+
+-- some `Look` listed a newer one than n's exactly where the newest one is
+abbrev pub AreNewest : Steps → List (Text × SessionName) → Type 0
+AreNewest steps newest = (krate : Text) (n : SessionName) → HasNewer krate n steps ↔ IsNewerOf (lookup (is_at (text_cmp krate)) newest) n
+
+-- these are the newest once these names were listed in this crate directory
+abbrev pub IsNewestWith : Text → List Text → List (Text × SessionName) → List (Text × SessionName) → Type 0
+IsNewestWith krate names old new =
+    (k : Text) (n : SessionName) → IsNewerOf (lookup (is_at (text_cmp k)) new) n
+    ↔ (IsNewerOf (lookup (is_at (text_cmp k)) old) n ⊎ ((krate ≡ k) × ListsNewer names n))
+
+abbrev pub IsNewestBy : Op × Reply → List (Text × SessionName) → List (Text × SessionName) → Type 0
+IsNewestBy (Look krate, Names names) old new = IsNewestWith krate names old new
+IsNewestBy step old new = new ≡ old
+
+-- ---- All of it.
 
 -- What the index has is what the steps say.
 pub record Indexes (steps : Steps) (index : Index) : Type 0 where
@@ -149,6 +213,11 @@ pub record Indexes (steps : Steps) (index : Index) : Type 0 where
   pub given : AreGiven steps index.given
   pub listed : AreListed steps index.listed
   pub looked : AreLooked steps index.looked
+  pub asked : AreAsked steps index.asked
+  pub made : Tells HasTriedDir steps index.made
+  pub unlinked : AreUnlinked steps index.unlinked
+  pub back : AreBack steps index.back
+  pub newest : AreNewest steps index.newest
 
 -- ---- What is asked of it.
 
@@ -169,3 +238,19 @@ IsAnyHeld way path at holds handles =
 abbrev pub IsTold : (Steps → Type 0) → Steps → Told → Type 0
 IsTold Says steps (At at) = Tells Says steps at
 IsTold Says steps Untold = Unit {0}
+
+-- when one of two things was said last, by when each of them was
+abbrev pub IsLater : Option ℕ → Option ℕ → Option ℕ → Type 0
+IsLater x y at = (from : ℕ) → IsSince at from ↔ (IsSince x from ⊎ IsSince y from)
+
+-- when both were said in one step last, by when each of them was; it isn't told where those are two steps
+abbrev pub IsBoth : Option ℕ → Option ℕ → Told → Type 0
+IsBoth None y told = told ≡ At None
+IsBoth (Some x) None told = told ≡ At None
+IsBoth (Some x) (Some y) told = ((x ≡ y) × (told ≡ At (Some x))) ⊎ (told ≡ Untold)
+
+-- when something was said last that wasn't taken back since, by when it was said and when it was taken back
+abbrev pub IsStill : Option ℕ → Option ℕ → Option ℕ → Type 0
+IsStill None taken at = at ≡ None
+IsStill (Some said) None at = at ≡ Some said
+IsStill (Some said) (Some taken) at = ((taken < said) × (at ≡ Some said)) ⊎ ((said ≤ taken) × (at ≡ None))

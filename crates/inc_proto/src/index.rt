@@ -3,13 +3,16 @@
 ghost use Rattle.std.specs.Prelude.{◌≡◌, ◌<◌, ◌^◌, ◌∷◌, [], OnOk, IfOk, IfSome, length, reverse};
 ghost use Rattle.inc_fs.specs.Paths.{path_cmp};
 ghost use Rattle.inc_proto.specs.Events.{Steps};
-ghost use Rattle.inc_proto.specs.Indexes.{handle_of, handed_by, hold_by, kept_hold, holds_by, handles_of, put_given, given_by, put_all, file_cmp, listed_by, looked_by, index_after, Indexes};
+ghost use Rattle.inc_proto.specs.Indexes.{handle_of, handed_by, hold_by, kept_hold, holds_by, handles_of, put_given, given_by, put_all, file_cmp, listed_by, looked_by, Indexes};
 
 mod asks;
+mod lasts;
 
 use crate::holds::{Way, turn_of, turned_at};
+use crate::index::lasts::{made_by, note_asked, note_back, note_newest, note_unlinked};
 use inc_base::{Copied, Label, List, Memory};
 use inc_fs::{Op, Reply, Table};
+use inc_names::SessionName;
 use std::alloc::Global;
 use std::mem;
 
@@ -55,6 +58,16 @@ pub(crate) struct Index {
     listed: Table<((Label, Label), Label), usize>,
     /// The latest `Look` of a crate directory that lists a name.
     looked: Table<(Label, Label), usize>,
+    /// The latest asking for a lock file.
+    asked: Table<(Label, Label), usize>,
+    /// The latest asking for a directory.
+    made: Option<usize>,
+    /// The latest taking away of a lock file's name.
+    unlinked: Table<(Label, Label), usize>,
+    /// The latest renaming of a session's finalised directory, under the new path and the session's lock file.
+    back: Table<((Label, Label), Label), usize>,
+    /// The newest session of which a finalised directory was listed in a crate directory.
+    newest: Table<Label, SessionName>,
 }
 
 fn path_of(krate: &Label, entry: &Label) -> Result<(Label, Label), Memory>
@@ -265,12 +278,17 @@ fn note_looked(
 /// Brings the index forward by a step, which stands at this place. After `Memory` it says nothing any more.
 fn note(index: &mut Index, step: &(Op, Reply), at: usize) -> Result<(), Memory>
     requires { at < 2 ^ 63 }
-    ensures { OnOk result (index.new ≡ index_after step.now at index.old) }
+    ensures { OnOk result ((steps : Steps) → at ≡ length steps → Indexes steps index.old → Indexes (step.now ∷ steps) index.new) }
 {
     note_hold(&mut index.holds, step, at)?;
     note_given(&mut index.given, index.alloc, step)?;
     note_listed(&mut index.listed, step, at)?;
-    note_looked(&mut index.looked, step, at)
+    note_looked(&mut index.looked, step, at)?;
+    note_asked(&mut index.asked, step, at)?;
+    index.made = made_by(step, at, index.made);
+    note_unlinked(&mut index.unlinked, step, at)?;
+    note_back(&mut index.back, index.alloc, step, at)?;
+    note_newest(&mut index.newest, step)
 }
 
 impl Index {
@@ -284,6 +302,11 @@ impl Index {
             given: Table::new(alloc),
             listed: Table::new(alloc),
             looked: Table::new(alloc),
+            asked: Table::new(alloc),
+            made: None,
+            unlinked: Table::new(alloc),
+            back: Table::new(alloc),
+            newest: Table::new(alloc),
         }
     }
 }

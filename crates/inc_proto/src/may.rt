@@ -18,7 +18,7 @@ use crate::own::OwnLock;
 use crate::own_dir::OwnDir;
 use crate::sought::{Sought, has};
 use crate::standing::is_standing;
-use crate::told::holds_so;
+use crate::told::{has_so, holds_so};
 use inc_base::{Bytes, Job, Label, Memory};
 use inc_fs::{Op, Reply};
 use inc_names::{Entry, SessionName, entry_text};
@@ -92,35 +92,41 @@ pub(crate) fn may_append(
 /// Whether the lock file that it is to make is this one, and it hasn't asked for it.
 fn is_first_lock(
     steps: &[(Op, Reply)],
+    index: Option<&Index>,
     n: SessionName,
     job: &Job,
     krate: &Label,
     entry: &Label,
-) -> bool
-    ensures { IsTrue result ↔ ((krate.now ≡ job.now.krate) × (entry.now ≡ lock_text n) × (¬ HasTried (MakeLock krate.now entry.now) (reverse steps.now))) }
+) -> Result<bool, Memory>
+    requires { IfSome index (λ index. Indexes (reverse steps.now) index.now) }
+    ensures { IfOk result (λ yes. IsTrue yes ↔ ((krate.now ≡ job.now.krate) × (entry.now ≡ lock_text n) × (¬ HasTried (MakeLock krate.now entry.now) (reverse steps.now)))) }
 {
-    is_of(krate, job) && is_lock_of(entry, n) && !has(steps, Sought::LockMaking(krate, entry))
+    let asked = has_so(steps, index, Sought::LockMaking(krate, entry))?;
+    Ok(is_of(krate, job) && is_lock_of(entry, n) && !asked)
 }
 
-/// Whether it may make this lock file. It looks through the steps.
+/// Whether it may make this lock file.
 pub(crate) fn may_make_lock(
     steps: &[(Op, Reply)],
+    index: Option<&Index>,
     drawn: Option<SessionName>,
     job: &Job,
     krate: &Label,
     entry: &Label,
-) -> bool
-    requires { drawn ≡ name (reverse steps.now) }
-    ensures { IsTrue result ↔ MayMakeLock job.now (reverse steps.now) krate.now entry.now }
+) -> Result<bool, Memory>
+    requires drawn { drawn ≡ name (reverse steps.now) }
+    requires index { IfSome index (λ index. Indexes (reverse steps.now) index.now) }
+    ensures { IfOk result (λ yes. IsTrue yes ↔ MayMakeLock job.now (reverse steps.now) krate.now entry.now) }
 {
     match drawn {
-        Some(n) => is_first_lock(steps, n, job, krate, entry),
-        None => false,
+        Some(n) => is_first_lock(steps, index, n, job, krate, entry),
+        None => Ok(false),
     }
 }
 
-/// Whether the lock file of its name stands, by the steps since this handle has held its lock.
-fn stands_since(
+/// Whether the lock file of its name stands, by the steps since this handle has held its lock. It looks through
+/// them.
+fn has_stood(
     steps: &[(Op, Reply)],
     alloc: Global,
     krate: &Label,
@@ -138,18 +144,38 @@ fn stands_since(
     }
 }
 
+/// The same, by the index where it is kept.
+fn stands_since(
+    steps: &[(Op, Reply)],
+    index: Option<&Index>,
+    alloc: Global,
+    krate: &Label,
+    n: SessionName,
+    h: u32,
+) -> Result<bool, Memory>
+    requires { IfSome index (λ index. Indexes (reverse steps.now) index.now) }
+    ensures { IfOk result (λ yes. IsTrue yes ↔ ((after : Steps) × (alone h (reverse steps.now) ≡ Some after) × IsStanding krate.now (lock_text n) after)) }
+{
+    match index {
+        Some(index) => index.stands_since(krate, n, h),
+        None => has_stood(steps, alloc, krate, n, h),
+    }
+}
+
 /// Whether it has its own lock, and the lock file of its name stands, by the steps since.
 fn has_standing_lock(
     steps: &[(Op, Reply)],
+    index: Option<&Index>,
     lock: OwnLock,
     alloc: Global,
     krate: &Label,
     n: SessionName,
 ) -> Result<bool, Memory>
+    requires { IfSome index (λ index. Indexes (reverse steps.now) index.now) }
     ensures { IfOk result (λ yes. IsTrue yes ↔ ((h : ℕ) × (after : Steps) × (lock ≡ Locked h) × (alone h (reverse steps.now) ≡ Some after) × IsStanding krate.now (lock_text n) after)) }
 {
     match lock {
-        OwnLock::Locked(h) => stands_since(steps, alloc, krate, n, h),
+        OwnLock::Locked(h) => stands_since(steps, index, alloc, krate, n, h),
         OwnLock::NoLock => Ok(false),
         OwnLock::Unlocked(_) => Ok(false),
     }
@@ -158,19 +184,23 @@ fn has_standing_lock(
 /// Whether the directory that it is to make is this one, and it hasn't asked for one.
 fn is_first_dir(
     steps: &[(Op, Reply)],
+    index: Option<&Index>,
     n: SessionName,
     job: &Job,
     krate: &Label,
     entry: &Label,
-) -> bool
-    ensures { IsTrue result ↔ ((krate.now ≡ job.now.krate) × (entry.now ≡ working_text n) × (¬ HasTriedDir (reverse steps.now))) }
+) -> Result<bool, Memory>
+    requires { IfSome index (λ index. Indexes (reverse steps.now) index.now) }
+    ensures { IfOk result (λ yes. IsTrue yes ↔ ((krate.now ≡ job.now.krate) × (entry.now ≡ working_text n) × (¬ HasTriedDir (reverse steps.now)))) }
 {
-    is_of(krate, job) && is_working_of(entry, n) && !has(steps, Sought::DirMaking)
+    let asked = has_so(steps, index, Sought::DirMaking)?;
+    Ok(is_of(krate, job) && is_working_of(entry, n) && !asked)
 }
 
-/// Whether it may make this directory. It looks through the steps.
+/// Whether it may make this directory.
 pub(crate) fn may_make_dir(
     steps: &[(Op, Reply)],
+    index: Option<&Index>,
     drawn: Option<SessionName>,
     lock: OwnLock,
     alloc: Global,
@@ -180,12 +210,13 @@ pub(crate) fn may_make_dir(
 ) -> Result<bool, Memory>
     requires drawn { drawn ≡ name (reverse steps.now) }
     requires lock { lock ≡ own (reverse steps.now) }
+    requires index { IfSome index (λ index. Indexes (reverse steps.now) index.now) }
     ensures { IfOk result (λ yes. IsTrue yes ↔ MayMakeDirectory job.now (reverse steps.now) krate.now entry.now) }
 {
     match drawn {
         Some(n) => {
-            if is_first_dir(steps, n, job, krate, entry) {
-                has_standing_lock(steps, lock, alloc, krate, n)
+            if is_first_dir(steps, index, n, job, krate, entry)? {
+                has_standing_lock(steps, index, lock, alloc, krate, n)
             } else {
                 Ok(false)
             }
@@ -194,7 +225,7 @@ pub(crate) fn may_make_dir(
     }
 }
 
-/// Whether it may link this file. It looks through the steps, where it may create such a file.
+/// Whether it may link this file.
 pub(crate) fn may_link(
     steps: &[(Op, Reply)],
     index: Option<&Index>,
@@ -257,7 +288,7 @@ fn may_clear_others(
     }
 }
 
-/// Whether it may clear this directory. It looks through the steps, where the directory isn't its own.
+/// Whether it may clear this directory.
 pub(crate) fn may_clear(
     steps: &[(Op, Reply)],
     index: Option<&Index>,
@@ -353,24 +384,38 @@ pub(crate) fn may_remove_lock(
     may_remove_others(steps, index, krate, entry)
 }
 
-fn has_newer(steps: &[(Op, Reply)], krate: &Label, n: SessionName) -> bool
+/// Whether a `Look` listed a finalised directory newer than n's. It looks through the steps.
+fn has_seen_newer(steps: &[(Op, Reply)], krate: &Label, n: SessionName) -> bool
     ensures { IsTrue result ↔ HasNewer krate.now n (reverse steps.now) }
 {
     has(steps, Sought::Newer(krate, n))
+}
+
+/// The same, by the index where it is kept.
+fn has_newer(steps: &[(Op, Reply)], index: Option<&Index>, krate: &Label, n: SessionName) -> bool
+    requires { IfSome index (λ index. Indexes (reverse steps.now) index.now) }
+    ensures { IsTrue result ↔ HasNewer krate.now n (reverse steps.now) }
+{
+    match index {
+        Some(index) => index.has_newer(krate, n),
+        None => has_seen_newer(steps, krate, n),
+    }
 }
 
 /// Whether n's finalised directories, of which there is a newer one, are others', and would be renamed to
 /// n's working name.
 fn is_outdated(
     steps: &[(Op, Reply)],
+    index: Option<&Index>,
     its: &OwnDir,
     krate: &Label,
     n: SessionName,
     to: &Label,
 ) -> bool
+    requires { IfSome index (λ index. Indexes (reverse steps.now) index.now) }
     ensures { IsTrue result ↔ ((to.now ≡ working_text n) × IsNotOut krate.now n its.now × HasNewer krate.now n (reverse steps.now)) }
 {
-    is_working_of(to, n) && its.is_others(krate, n) && has_newer(steps, krate, n)
+    is_working_of(to, n) && its.is_others(krate, n) && has_newer(steps, index, krate, n)
 }
 
 /// Whether it holds n exclusively, and since then saw n's lock file and this directory in one `Look`.
@@ -390,7 +435,7 @@ fn holds_both(
     holds_so(steps, index, krate, n, Way::Alone, both)
 }
 
-/// Whether it may rename this finalised directory back. It looks through the steps, where it is one.
+/// Whether it may rename this finalised directory back.
 pub(crate) fn may_retire(
     steps: &[(Op, Reply)],
     index: Option<&Index>,
@@ -406,7 +451,7 @@ pub(crate) fn may_retire(
 {
     match final_name(from) {
         Some((n, _)) => {
-            if is_outdated(steps, its, krate, n, to) {
+            if is_outdated(steps, index, its, krate, n, to) {
                 holds_both(steps, index, alloc, krate, n, from)
             } else {
                 Ok(false)

@@ -131,12 +131,14 @@ fn is_permitted<C: Content>(view: &View, its: &OwnDir, content: &C, op: &Op) -> 
     let alloc = job.text.allocator();
     match op {
         Op::Draw => Ok(may_draw(its)),
-        Op::MakeLock { krate, entry } => Ok(may_make_lock(steps, drawn, job, krate, entry)),
+        Op::MakeLock { krate, entry } => { may_make_lock(steps, index, drawn, job, krate, entry) }
         Op::OpenLock { .. } => Ok(true),
         Op::TryLock { .. } => Ok(true),
         Op::Look { .. } => Ok(true),
         Op::ListDir { .. } => Ok(true),
-        Op::MakeDir { krate, entry } => may_make_dir(steps, drawn, lock, alloc, job, krate, entry),
+        Op::MakeDir { krate, entry } => {
+            may_make_dir(steps, index, drawn, lock, alloc, job, krate, entry)
+        }
         Op::Link {
             krate,
             from,
@@ -165,12 +167,13 @@ impl View {
     /// Whether the session may make this step: exactly where one of the nine permissions holds
     /// (docs/PROTOCOL.md, "What a session may do"). `Memory` where there is no memory for the answer.
     ///
-    /// Drawing, reading, creating, appending and clearing its own directory cost a look-up. Linking, and clearing
-    /// another's directory that a `Look` listed since its name is held, cost some, and one for each handle that
-    /// the session was given on that name. Publishing, where the directory stands and the new name is right,
-    /// tells the directory from the session's own steps and compares its files with the wanted ones once. What
-    /// else is done with lock files, directories and others' names looks through the session's own steps. (Where
-    /// there was no memory to keep the directory and the index of the steps, these are looked through too.)
+    /// Drawing, reading, creating, appending and clearing its own directory cost a look-up, and making a lock file or
+    /// a directory some. Linking, clearing another's directory and renaming one back cost some, and one for each
+    /// handle that the session was given on that name; renaming back where a lock file and a directory were listed
+    /// last by different `Look`s, and removing another's lock file, look through the session's own steps. Publishing,
+    /// where the directory stands and the new name is right, tells the directory from the steps and compares its
+    /// files with the wanted ones once. (Where there was no memory to keep the directory and the index of the steps,
+    /// these are looked through too.)
     pub fn permits<C: Content>(&self, content: &C, op: &Op) -> Result<bool, Memory>
         ensures { IfOk result (λ yes. IsTrue yes ↔ IsPermitted C.files self.now.job self.now.steps op.now) }
     {

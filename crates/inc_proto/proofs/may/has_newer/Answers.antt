@@ -1,11 +1,8 @@
-use Rattle.std.proofs.Common.{reverse}
-use Rattle.inc_proto.proofs.Mays.{newer_out, newer_in}
+use Rattle.std.proofs.Common.{subst, reverse, IfSome}
+use Rattle.inc_proto.specs.Indexes.{Indexes}
 use Rattle.inc_proto.proofs.may.has_newer.Goals as goal
 
-pub returns : goal.returns
-returns c =
-    let krate = c.args.krate.now in
-    let steps = reverse c.args.steps.now in (
-      λ t. newer_out krate c.args.n steps (c.has.ensures.0 t),
-      λ w. c.has.ensures.1 (newer_in krate c.args.n steps w.0 w.1 w.2 w.3 w.4 w.5),
-    )
+pub returns-in-Some : goal.returns-in-Some
+returns-in-Some c =
+    let steps = reverse c.args.steps.now in
+    c.has_newer.ensures steps (subst (λ o. IfSome o (λ index. Indexes steps index.now)) c.in-Some.is c.requires)

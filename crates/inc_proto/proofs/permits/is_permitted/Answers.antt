@@ -1,7 +1,12 @@
 use Rattle.std.proofs.Common.{refl, reverse}
-use Rattle.inc_fs.specs.declared.op.Op.TheVariants.{MakeDir, Link, Unlink, UnlinkLock, RemoveDir, Rename}
+use Rattle.inc_fs.specs.declared.op.Op.TheVariants.{MakeLock, MakeDir, Link, Unlink, UnlinkLock, RemoveDir, Rename}
 use Rattle.inc_proto.proofs.Mays.{permitted_as}
 use Rattle.inc_proto.proofs.permits.is_permitted.Goals as goal
+
+pub returns-in-MakeLock : goal.returns-in-MakeLock
+returns-in-MakeLock g c =
+    permitted_as g.C.Content.files c.args.view.now.job c.job-job.result.now c.args.view.now.steps (reverse c.steps-steps.result.now) c.args.op.now
+    (MakeLock c.in-MakeLock.krate c.in-MakeLock.entry) c.may_make_lock.result c.job-job.ensures c.steps-steps.ensures c.in-MakeLock.is c.may_make_lock.ensures
 
 pub returns-in-MakeDir : goal.returns-in-MakeDir
 returns-in-MakeDir g c =

@@ -7,3 +7,7 @@ use Rattle.inc_proto.proofs.index.Index.told.Goals as goal
 pub returns-in-Has : goal.returns-in-Has
 returns-in-Has c =
     subst (λ q. IfOk c.last_of.result (λ told. (steps : Steps) → Indexes steps c.args.self.now → IsTold (Answers q) steps told)) (sym c.in-Has.is) c.last_of.ensures
+
+pub returns-in-Either : goal.returns-in-Either
+returns-in-Either c =
+    subst (λ q. IfOk c.last_of_either.result (λ told. (steps : Steps) → Indexes steps c.args.self.now → IsTold (Answers q) steps told)) (sym c.in-Either.is) c.last_of_either.ensures

@@ -168,7 +168,7 @@ fn is_whole(history: &[Event]) -> bool {
 #[test]
 fn tells_eleven_events(rt: HostRuntime) -> Result<(), Fail> {
     let ran = build(rt.alloc(), &WORDS, SURE)?;
-    assert_eq!(rt; ran.dir.history().len(), 11);
-    assert!(rt; is_whole(ran.dir.history()));
+    assert_eq!(rt; ran.dir.ground().history().len(), 11);
+    assert!(rt; is_whole(ran.dir.ground().history()));
     Ok(())
 }

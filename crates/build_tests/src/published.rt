@@ -1,9 +1,8 @@
-use crate::room::{Case, OBJECT, SURE, WORDS, build};
-use inc_base::{Label, List, Memory};
-use inc_dir::MemDir;
+use crate::room::{Case, OBJECT, SURE, WORDS, build, chances};
+use inc_base::{Label, Memory};
 use inc_fs::{Chance, Fs, Op, Reply};
+use inc_proto::Event;
 use std::alloc::Global;
-use std::mem;
 use std::test::Fail;
 
 /// The name that the session publishes under.
@@ -64,16 +63,28 @@ fn is_read(reply: &Reply, want: &[u8]) -> bool {
     }
 }
 
-fn state_of(dir: MemDir) -> Fs {
-    let (_history, fs) = dir.into_parts();
-    fs
+/// The state that a history leads to, where each step takes the chance of its number.
+fn state_of(alloc: Global, history: &[Event], chances: &[Chance]) -> Result<Fs, Memory> {
+    let mut fs = Fs::new(alloc);
+    let mut acts = chances.iter();
+    for event in history {
+        match event {
+            Event::Begin(_, _) => {}
+            Event::Did(who, op, _) => {
+                let chance = acts.next().copied().unwrap_or(CHANCE);
+                drop(fs.apply(*who, op, chance)?);
+            }
+            Event::Left(who, _, _) => fs.end(*who),
+        }
+    }
+    Ok(fs)
 }
 
-/// The directory after a build.
+/// The directory after a build, by its history.
 fn directory(alloc: Global, case: Case) -> Result<Fs, Memory> {
-    let mut ran = build(alloc, &WORDS, case)?;
-    let dir = mem::replace(&mut ran.dir, MemDir::empty(List::new(alloc)));
-    Ok(state_of(dir))
+    let ran = build(alloc, &WORDS, case)?;
+    let chances = chances(alloc, case.failing)?;
+    state_of(alloc, ran.dir.ground().history(), chances.as_slice())
 }
 
 /// What the directory answers to this step after such a build.

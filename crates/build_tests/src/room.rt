@@ -2,6 +2,8 @@ use inc_base::{Bytes, List, MemSink, MemSource, Memory, Meter};
 use inc_cli::run;
 use inc_dir::MemDir;
 use inc_fs::Chance;
+use inc_proto::Ground;
+use inc_session::Saved;
 use std::alloc::Global;
 
 /// The words of a build of the crate `k`.
@@ -47,7 +49,7 @@ pub struct Ran {
     pub status: u8,
     pub out: MemSink,
     pub image: MemSink,
-    pub dir: MemDir,
+    pub dir: MemDir<Saved>,
     pub meter: Meter,
 }
 
@@ -74,7 +76,7 @@ fn chance(act: u32, failing: Option<(u32, u32)>) -> Chance {
     }
 }
 
-fn chances(alloc: Global, failing: Option<(u32, u32)>) -> Result<List<Chance>, Memory> {
+pub fn chances(alloc: Global, failing: Option<(u32, u32)>) -> Result<List<Chance>, Memory> {
     let mut list = List::new(alloc);
     for act in 0..9u32 {
         list.push(chance(act, failing))?;
@@ -100,10 +102,15 @@ pub fn source(alloc: Global, text: &[u8], failing: &[u32]) -> Result<MemSource, 
     Ok(MemSource::new(Bytes::of(alloc, text)?, numbers(alloc, failing)?))
 }
 
+/// An empty directory, which takes these chances and in which nobody else is at work.
+pub fn directory(alloc: Global, chances: List<Chance>) -> MemDir<Saved> {
+    MemDir::new(Ground::new(alloc, Saved), chances, List::new(alloc))
+}
+
 /// Makes the call of these words in an empty directory.
 pub fn build(alloc: Global, words: &[&str], case: Case) -> Result<Ran, Memory> {
     let mut src = source(alloc, case.text, &[])?;
-    let mut dir = MemDir::empty(chances(alloc, case.failing)?);
+    let mut dir = directory(alloc, chances(alloc, case.failing)?);
     let mut out = sink(alloc, case.out)?;
     let mut image = sink(alloc, case.image)?;
     let mut meter = Meter::new();
@@ -125,7 +132,7 @@ pub fn summary(ran: &Ran, line: &[u8]) -> Seen {
         status: ran.status,
         says: ran.out.bytes() == line,
         image: ran.image.bytes().len(),
-        events: ran.dir.history().len(),
+        events: ran.dir.ground().history().len(),
         emitted: ran.meter.count(),
     }
 }

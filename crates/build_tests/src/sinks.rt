@@ -1,8 +1,7 @@
 use crate::narrow::Narrow;
-use crate::room::{Case, EMITTED, IMAGE, SEVEN, SURE, Seen, WORDS, call, source};
+use crate::room::{Case, EMITTED, IMAGE, SEVEN, SURE, Seen, WORDS, call, directory, source};
 use inc_base::{List, Memory, Meter};
 use inc_cli::run;
-use inc_dir::MemDir;
 use std::alloc::Global;
 use std::test::Fail;
 
@@ -10,7 +9,7 @@ use std::test::Fail;
 /// was to be written that long.
 fn ends(alloc: Global, out_takes: u32, image_takes: u32, status: u8) -> Result<bool, Memory> {
     let mut src = source(alloc, SEVEN, &[])?;
-    let mut dir = MemDir::empty(List::new(alloc));
+    let mut dir = directory(alloc, List::new(alloc));
     let mut out = Narrow::new(alloc, out_takes);
     let mut image = Narrow::new(alloc, image_takes);
     let mut meter = Meter::new();

@@ -10,7 +10,8 @@ use Rattle.inc_fs.specs.declared.op.Reply.{Reply}
 use Rattle.inc_proto.specs.Events.{Steps, did, latest, own_steps}
 use Rattle.inc_proto.specs.Growth.{TellsBy, AddsOne}
 use Rattle.inc_proto.specs.GrowthLaws.{steps_of_whole, latest_own}
-use Rattle.inc_dir.specs.Promises.{Could, IsRefusal}
+use Rattle.inc_dir.specs.Promises.{IsRefusal}
+use Rattle.inc_session.specs.Saves.{IsLegalHere}
 use Rattle.inc_session.specs.Order.{Plan, IsWholePath, IsPathSoFar}
 use Rattle.inc_session.specs.Machine.{plan_of}
 use Rattle.inc_session.specs.declared.stage.Stage.TheVariants.{Close as AtClose}
@@ -18,14 +19,14 @@ use Rattle.inc_session.specs.PublishedLaws.{whole_publishes}
 use Rattle.inc_cli.specs.declared.status.Status.{Status}
 use Rattle.inc_cli.specs.declared.status.Status.TheVariants.{Done, BadWords, DirectoryFault, SinkFault, SourceFault, OutOfMemory, Disturbed, NotBuilt}
 use Rattle.inc_cli.specs.Words.{BuildsCrate}
-use Rattle.inc_cli.specs.Run.{Inputs, Telling, session_of, AreTold, Visit, HasPublished, Refuses}
+use Rattle.inc_cli.specs.Run.{Inputs, session_of, AreTold, Visit, HasPublished, Refuses}
 use Rattle.inc_cli.specs.Parts.{IsText, IsBuilt, Visited, HasSession, FailsSession}
 
 told_as_own : (before own : List ℕ) (job : Job) (steps : Steps) (old new : Option (List Event)) → AddsOne old before own
-    → TellsBy Could own old new (Left (latest own) None 0 ∷ (did (latest own) steps ++ Begin (latest own) job ∷ [])) → IfSome new (λ history. own_steps (latest own) history ≡ steps)
+    → TellsBy IsLegalHere own old new (Left (latest own) None 0 ∷ (did (latest own) steps ++ Begin (latest own) job ∷ [])) → IfSome new (λ history. own_steps (latest own) history ≡ steps)
 told_as_own before own job steps None new one told = subst (λ new. IfSome new (λ history. own_steps (latest own) history ≡ steps)) (sym told) tt
 told_as_own before own job steps (Some old) None one told = tt
-told_as_own before own job steps (Some old) (Some new) one told = steps_of_whole Could own (latest own) (latest_own before own one) job steps old new told
+told_as_own before own job steps (Some old) (Some new) one told = steps_of_whole IsLegalHere own (latest own) (latest_own before own one) job steps old new told
 
 same_head : (x y : Op × Reply) (xs ys : Steps) → x ∷ xs ≡ y ∷ ys → x ≡ y
 same_head x y xs ys is = cc
@@ -34,7 +35,7 @@ same_head x y xs ys is = cc
 no_refusal : (handle : ℕ) (closed : Reply) (asked : Op) (reply : Reply) (before told : Steps) → (Close handle, closed) ∷ before ≡ (asked, reply) ∷ told → ¬ IsRefusal asked reply
 no_refusal handle closed asked reply before told is = λ refusal.
     let closes : asked ≡ Close handle = sym (ap (λ (step : Op × Reply). step.0) (same_head (Close handle, closed) (asked, reply) before told is)) in
-    subst (λ asked. IsRefusal asked reply) closes refusal
+    (subst (λ asked. IsRefusal asked reply) closes refusal).0
 
 -- all steps of a whole path are told
 all_told : (plan : Plan) (steps told : Steps) → IsWholePath plan steps → AreTold steps told → told ≡ steps

@@ -3,8 +3,8 @@ use Rattle.std.proofs.Common.{◌≡◌, ℕ, ◌≤◌, Bool, true, false, List
 use Rattle.std.proofs.lemmas.Bool.{false≢true}
 use Rattle.std.specs.Prelude.{Option}
 use Rattle.inc_base.specs.Outside.{Rose}
+use Rattle.inc_base.specs.declared.job.Job.{Job}
 use Rattle.inc_fs.specs.declared.op.Op.{Op}
-use Rattle.inc_fs.specs.declared.op.Op.TheVariants.{Rename}
 use Rattle.inc_fs.specs.declared.op.Reply.{Reply}
 use Rattle.inc_fs.specs.declared.op.Reply.TheVariants.{Fault}
 use Rattle.inc_names.specs.Entries.{lock_text}
@@ -13,50 +13,52 @@ use Rattle.inc_proto.specs.declared.event.Event.TheVariants.{Did}
 use Rattle.inc_proto.specs.Events.{Steps, did, latest}
 use Rattle.inc_proto.specs.Growth.{TellsOn}
 use Rattle.inc_proto.specs.GrowthLaws.{tells_nothing, tells_then, tells_later, tells_same}
-use Rattle.inc_dir.specs.Promises.{Could, IsRefusal, TellsStep}
+use Rattle.inc_dir.specs.Promises.{IsRefusal, TellsStep}
 use Rattle.inc_session.specs.declared.stage.Stage.{Stage}
 use Rattle.inc_session.specs.declared.stage.Stage.TheVariants.{Close}
 use Rattle.inc_session.specs.declared.outcome.Outcome.TheVariants.{DiskFault}
 use Rattle.inc_session.specs.Order.{IsPathSoFar, goes_on}
 use Rattle.inc_session.specs.Machine.{Going, HasMade, fed, fed_by, gone_to, learnt, idle, next_of, meter_at, metered_by}
+use Rattle.inc_session.specs.Saves.{IsLegalHere, saved_files}
 use Rattle.inc_session.specs.MachineLaws.{made_one, asking, on_path, on_path_still, metered_stage, fault_was}
-use Rattle.inc_cli.specs.Visits.{HasGrown, HasGone}
+use Rattle.inc_cli.specs.Visits.{HasGrown, HasGone, Sees}
+use Rattle.inc_cli.proofs.Seeing.{sees_more}
 
 -- ---- One more step.
 
 -- where all steps so far were told, what a directory tells of the next one is all that was added
 grown_step : (own : List ℕ) (old there new : Option (List Event)) (asked : Op) (reply : Reply) (steps : Steps) (g : HasGrown own steps old there) → g.told_steps ≡ steps
-    → TellsStep own there new asked reply → HasGrown own ((asked, reply) ∷ steps) old new
+    → TellsStep saved_files own there new asked reply → HasGrown own ((asked, reply) ∷ steps) old new
 grown_step own old there new asked reply steps g all (inl told) = record {
   told_steps = (asked, reply) ∷ g.told_steps;
   are_told = inl (ap (λ before. (asked, reply) ∷ before) all);
   mid = new;
-  told = tells_then Could own old g.mid new (Did (latest own) asked reply) (did (latest own) g.told_steps) g.told (tells_later Could own g.mid there new (Did (latest own) asked reply ∷ []) g.rest told);
-  rest = tells_same Could own new;
+  told = tells_then IsLegalHere own old g.mid new (Did (latest own) asked reply) (did (latest own) g.told_steps) g.told (tells_later IsLegalHere own g.mid there new (Did (latest own) asked reply ∷ []) g.rest told);
+  rest = tells_same IsLegalHere own new;
 }
-grown_step own old there new asked reply steps g all (inr (refusal, others)) = record {
+grown_step own old there new asked reply steps g all (inr refused) = record {
   told_steps = g.told_steps;
-  are_told = inr (asked, reply, refusal, ap (λ before. (asked, reply) ∷ before) (sym all));
+  are_told = inr (asked, reply, refused.refusal, ap (λ before. (asked, reply) ∷ before) (sym all));
   mid = g.mid;
   told = g.told;
-  rest = tells_later Could own g.mid there new [] g.rest others;
+  rest = tells_later IsLegalHere own g.mid there new [] g.rest refused.others;
 }
 
 -- and unless it was refused, it is told too
 all_told : (own : List ℕ) (old there new : Option (List Event)) (asked : Op) (reply : Reply) (steps : Steps) (g : HasGrown own steps old there) (all : g.told_steps ≡ steps)
-    (answer : TellsStep own there new asked reply) → ¬ IsRefusal asked reply → (grown_step own old there new asked reply steps g all answer).told_steps ≡ (asked, reply) ∷ steps
+    (answer : TellsStep saved_files own there new asked reply) → ¬ IsRefusal asked reply → (grown_step own old there new asked reply steps g all answer).told_steps ≡ (asked, reply) ∷ steps
 unfolding grown_step
 all_told own old there new asked reply steps g all (inl told) goes = ap (λ before. (asked, reply) ∷ before) all
-all_told own old there new asked reply steps g all (inr (refusal, others)) goes = absurd (goes refusal)
+all_told own old there new asked reply steps g all (inr refused) goes = absurd (goes refused.refusal)
 
 -- where others' events follow
-grown_later : (own : List ℕ) (old there new : Option (List Event)) (steps : Steps) → HasGrown own steps old there → TellsOn Could own there new [] → HasGrown own steps old new
+grown_later : (own : List ℕ) (old there new : Option (List Event)) (steps : Steps) → HasGrown own steps old there → TellsOn IsLegalHere own there new [] → HasGrown own steps old new
 grown_later own old there new steps g rest = record {
   told_steps = g.told_steps;
   are_told = g.are_told;
   mid = g.mid;
   told = g.told;
-  rest = tells_later Could own g.mid there new [] g.rest rest;
+  rest = tells_later IsLegalHere own g.mid there new [] g.rest rest;
 }
 
 -- a session has ended once it is answered by a fault
@@ -65,15 +67,11 @@ ends_by_fault g stage false is same = refl
 ends_by_fault g Close true is same = ap (λ stage. (gone_to (learnt (idle g) Fault) (next_of stage)).op) same
 ends_by_fault g stage true is same = absurd (false≢true is)
 
-refusal_is_fault : (asked : Op) (reply : Reply) → IsRefusal asked reply → reply ≡ Fault
-refusal_is_fault (Rename krate from to) Fault refusal = refl
-refusal_is_fault asked reply refusal = absurd refusal
-
 -- so one that asks on was not refused
 asks_on : (g : Going) (asked next : Op) (reply : Reply) → (fed g reply).op ≡ Some next → ¬ IsRefusal asked reply
 asks_on g asked next reply is = λ refusal.
     let ended : (fed g Fault).op ≡ None = ends_by_fault g g.stage (goes_on (lock_text g.name) g.stage Fault) refl refl in
-    let asks : (fed g Fault).op ≡ Some next = subst (λ reply. (fed g reply).op ≡ Some next) (refusal_is_fault asked reply refusal) is in
+    let asks : (fed g Fault).op ≡ Some next = subst (λ reply. (fed g reply).op ≡ Some next) refusal.1 is in
     cc
 
 -- ---- The way so far.
@@ -83,6 +81,7 @@ pub record Driving (own : List ℕ) (first now : Going) (old new : Option (List 
   pub grown : HasGrown own steps old new
   pub all : (next : Op) → now.op ≡ Some next → grown.told_steps ≡ steps
   pub made : HasMade now steps
+  pub sees : (job : Job) → Sees own job [] old → (next : Op) → now.op ≡ Some next → Sees own job steps new
   pub plan : now.plan ≡ first.plan
   pub same : now.number ≡ first.number
   pub later : before ≤ after
@@ -116,9 +115,10 @@ pub drives_first : (own : List ℕ) (first : Going) (told : Option (List Event))
     → Driving own first first told told faults faults meter meter
 drives_first own first told faults meter made open_ = record {
   steps = [];
-  grown = record { told_steps = []; are_told = inl refl; mid = told; told = tells_nothing Could own told; rest = tells_same Could own told };
+  grown = record { told_steps = []; are_told = inl refl; mid = told; told = tells_nothing IsLegalHere own told; rest = tells_same IsLegalHere own told };
   all = λ next is. refl;
   made = made;
+  sees = λ job seen next is. seen;
   plan = refl;
   same = refl;
   later = omega arith;
@@ -128,7 +128,7 @@ drives_first own first told faults meter made open_ = record {
 
 -- it makes one more
 pub drives_on : (own : List ℕ) (first g : Going) (asked : Op) (reply : Reply) (old mid new : Option (List Event)) (before between after started meter risen : ℕ)
-    → Driving own first g old mid before between started meter → g.op ≡ Some asked → TellsStep own mid new asked reply
+    → Driving own first g old mid before between started meter → g.op ≡ Some asked → TellsStep saved_files own mid new asked reply
     → between ≤ after → (reply ≡ Fault → Rose between after) → risen ≡ metered_by g reply meter
     → Driving own first (fed g reply) old new before after started risen
 drives_on own first g asked reply old mid new before between after started meter risen d is answer later cause metered = record {
@@ -136,6 +136,7 @@ drives_on own first g asked reply old mid new before between after started meter
   grown = grown_step own old mid new asked reply d.steps d.grown (d.all asked is) answer;
   all = λ next asks. all_told own old mid new asked reply d.steps d.grown (d.all asked is) answer (asks_on g asked next reply asks);
   made = made_one g asked reply d.steps is d.made;
+  sees = λ job seen next asks. sees_more own job d.steps mid new asked reply (asks_on g asked next reply asks) (d.sees job seen asked is) answer;
   plan = fed_plan g reply ∙ d.plan;
   same = fed_number g reply ∙ d.same;
   later = omega (arith, d.later);
@@ -145,7 +146,7 @@ drives_on own first g asked reply old mid new before between after started meter
 
 -- it stops where it asks
 pub goes_no_further : (own : List ℕ) (first g : Going) (asked : Op) (old mid new : Option (List Event)) (before between started meter : ℕ)
-    → Driving own first g old mid before between started meter → g.op ≡ Some asked → TellsOn Could own mid new []
+    → Driving own first g old mid before between started meter → g.op ≡ Some asked → TellsOn IsLegalHere own mid new []
     → (steps : Steps) × HasGone own first.plan steps old new
 goes_no_further own first g asked old mid new before between started meter d is rest = (
   d.steps,
@@ -157,7 +158,7 @@ goes_no_further own first g asked old mid new before between started meter d is 
 
 -- it stops once it was answered
 pub goes_so_far : (own : List ℕ) (first g : Going) (asked : Op) (reply : Reply) (old mid new : Option (List Event)) (before between started meter : ℕ)
-    → Driving own first g old mid before between started meter → g.op ≡ Some asked → TellsStep own mid new asked reply
+    → Driving own first g old mid before between started meter → g.op ≡ Some asked → TellsStep saved_files own mid new asked reply
     → (steps : Steps) × HasGone own first.plan steps old new
 goes_so_far own first g asked reply old mid new before between started meter d is answer = (
   (asked, reply) ∷ d.steps,

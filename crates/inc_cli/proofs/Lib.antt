@@ -1,4 +1,5 @@
 pub mod Driving
+pub mod Seeing
 pub mod Nine
 pub mod Texts
 pub mod Visiting

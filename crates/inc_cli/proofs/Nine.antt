@@ -1,6 +1,6 @@
 -- Nine words, of which a build's are spelled in one way.
-use Rattle.std.proofs.Common.{◌≡◌, ℕ, List, [], ◌∷◌, length, get_or, refl, ◌∙◌, sym, subst, arith}
-use Rattle.inc_cli.specs.Words.{AreOptions, AreValues, AreRefused, spelled}
+use Rattle.std.proofs.Common.{◌≡◌, ℕ, List, [], ◌∷◌, length, get_or, refl, arith}
+use Rattle.inc_cli.specs.Words.{AreOptions, spelled}
 
 -- a list of nine is its elements
 pub nine : {A : Type 0} (xs : List A) (d : A) → length xs ≡ 9

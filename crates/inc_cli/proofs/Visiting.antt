@@ -9,23 +9,23 @@ use Rattle.inc_proto.specs.Growth.{TellsBy, TellsOn, AddsOne}
 use Rattle.inc_proto.specs.GrowthLaws.{tells_nothing, tells_then, tells_both, tells_later}
 use Rattle.inc_session.specs.Order.{Plan, IsPathSoFar}
 use Rattle.inc_session.specs.Machine.{Going, HasMade}
-use Rattle.inc_dir.specs.Promises.{Could}
+use Rattle.inc_session.specs.Saves.{IsLegalHere}
 use Rattle.inc_cli.specs.Visits.{HasGrown, HasGone, HasCome}
-use Rattle.inc_cli.specs.Run.{Telling, HasVisited}
+use Rattle.inc_cli.specs.Run.{HasVisited}
 
 module _ (before own : List ℕ) (job : Job) (old entered there new : Option (List Event)) (one : AddsOne old before own)
-    (begun : TellsOn Could own old entered (Begin (latest own) job ∷ [])) (left : TellsOn Could own there new (Left (latest own) None 0 ∷ [])) where
-  entering : TellsBy Could own old entered (Begin (latest own) job ∷ [])
-  entering = tells_then Could own old old entered (Begin (latest own) job) [] (tells_nothing Could own old) begun
+    (begun : TellsOn IsLegalHere own old entered (Begin (latest own) job ∷ [])) (left : TellsOn IsLegalHere own there new (Left (latest own) None 0 ∷ [])) where
+  entering : TellsBy IsLegalHere own old entered (Begin (latest own) job ∷ [])
+  entering = tells_then IsLegalHere own old old entered (Begin (latest own) job) [] (tells_nothing IsLegalHere own old) begun
 
   visits : (steps : Steps) → HasGrown own steps entered there → HasVisited job steps (record { told = old; own = before }) (record { told = new; own = own })
   visits steps grown = record {
     one = one;
     told_steps = grown.told_steps;
     are_told = grown.are_told;
-    told = tells_then Could own old grown.mid new (Left (latest own) None 0) (did (latest own) grown.told_steps ++ Begin (latest own) job ∷ [])
-        (tells_both Could own old entered grown.mid (Begin (latest own) job ∷ []) (did (latest own) grown.told_steps) entering grown.told)
-        (tells_later Could own grown.mid there new (Left (latest own) None 0 ∷ []) grown.rest left);
+    told = tells_then IsLegalHere own old grown.mid new (Left (latest own) None 0) (did (latest own) grown.told_steps ++ Begin (latest own) job ∷ [])
+        (tells_both IsLegalHere own old entered grown.mid (Begin (latest own) job ∷ []) (did (latest own) grown.told_steps) entering grown.told)
+        (tells_later IsLegalHere own grown.mid there new (Left (latest own) None 0 ∷ []) grown.rest left);
   }
 
   -- it ended

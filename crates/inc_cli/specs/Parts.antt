@@ -1,5 +1,5 @@
 -- The parts of a build, and how each of them is refused.
-use Rattle.std.specs.Prelude.{◌≡◌, ◌⊎◌, ℕ, List, [], Option, Some, None, IfSome}
+use Rattle.std.specs.Prelude.{◌≡◌, ◌⊎◌, ℕ, List, Option, Some, None, IfSome}
 use Rattle.inc_base.specs.Meters.{ticked}
 use Rattle.inc_base.specs.Outside.{IsReadOut, Rose}
 use Rattle.inc_base.specs.declared.job.Job.{Job}

@@ -12,9 +12,10 @@ use Rattle.inc_fs.specs.declared.op.Reply.{Reply}
 use Rattle.inc_proto.specs.Events.{Steps, did, latest, own_steps}
 use Rattle.inc_proto.specs.Growth.{TellsBy, TellsOn, AddsOne}
 use Rattle.inc_proto.specs.Leads.{LeadsTo}
-use Rattle.inc_dir.specs.Promises.{Could, IsRefusal}
+use Rattle.inc_dir.specs.Promises.{IsRefusal}
 use Rattle.inc_session.specs.Order.{Plan, IsWholePath, IsCutByFault, IsPathSoFar, IsDisturbedBy}
 use Rattle.inc_session.specs.Machine.{plan_of}
+use Rattle.inc_session.specs.Saves.{IsLegalHere}
 use Rattle.inc_session.specs.Published.{whole_run, Publishes}
 use Rattle.rs_literal.specs.Literal.{IsLiteral}
 use Rattle.rs_literal.specs.Object.{literal_image}
@@ -46,17 +47,17 @@ abbrev pub AreTold : Steps → Steps → Type 0
 AreTold steps told = (told ≡ steps) ⊎ ((op : Op) × (reply : Reply) × IsRefusal op reply × (steps ≡ (op, reply) ∷ told))
 
 -- A session of this job has visited the directory. Where the history is told, exactly one number was put before the own
--- ones, and the history grew by this session's beginning, its told steps and its leaving, with others' events before each.
+-- ones, and the history, which stays legal, grew by this session's beginning, its told steps and its leaving, with others' events before each.
 pub record HasVisited (job : Job) (steps : Steps) (old new : Telling) : Type 0 where
   pub one : AddsOne old.told old.own new.own
   pub told_steps : Steps
   pub are_told : AreTold steps told_steps
-  pub told : TellsBy Could new.own old.told new.told (Left (session_of new) None 0 ∷ (did (session_of new) told_steps ++ Begin (session_of new) job ∷ []))
+  pub told : TellsBy IsLegalHere new.own old.told new.told (Left (session_of new) None 0 ∷ (did (session_of new) told_steps ++ Begin (session_of new) job ∷ []))
 
 -- No session began. Where the history is told, it grew by others' events alone.
 pub record HasNotBegun (old new : Telling) : Type 0 where
   pub own : new.own ≡ old.own
-  pub others : TellsOn Could old.own old.told new.told []
+  pub others : TellsOn IsLegalHere old.own old.told new.told []
 
 -- A session of the job of the words and the text visited the directory, and its steps are as the statement has it. Where
 -- the history is told, the told ones of them are what it has as the session's own.

@@ -1,4 +1,5 @@
 ghost use Rattle.std.specs.Prelude.{◌≡◌, ◌<◌, ◌^◌, false, map, IfOk, IfErr};
+ghost use Rattle.rs_literal.specs.Literal.{IsLiteral};
 ghost use Rattle.inc_cli.specs.Run.{HasPublished, Refuses};
 ghost use Rattle.inc_cli.specs.Parts.{IsText, FailsText, IsBuilt, HasSession, FailsSession, HasOutcome, FailsOutcome};
 
@@ -7,7 +8,7 @@ use crate::visit::visit;
 use crate::words::crate_word;
 use inc_base::{Bytes, Compiler, Job, Meter, ReadFault, Source, VERSION, read_to};
 use inc_dir::Dir;
-use inc_session::{Outcome, Session};
+use inc_session::{Outcome, Saved, Session};
 use rs_literal::{TEXT_LIMIT, literal_of};
 use std::alloc::Global;
 
@@ -67,7 +68,7 @@ fn built_of(session: Session) -> Result<Built, Status>
 }
 
 /// Lets a session of this job visit the directory, and gives what it built.
-fn publish<D: Dir>(
+fn publish<D: Dir<Saved>>(
     alloc: Global,
     job: Job,
     number: u64,
@@ -75,7 +76,7 @@ fn publish<D: Dir>(
     meter: &mut Meter,
 ) -> Result<Built, Status>
     requires free { D.runs dir.old ≡ false }
-    requires small { number < 2 ^ 63 }
+    requires literal { IsLiteral job.text number }
     ensures free { D.runs dir.new ≡ false }
     ensures ok { IfOk result (λ built. HasSession job number built.image built.emitted built.units (record { told = D.told dir.old; own = D.own dir.old }) (record { told = D.told dir.new; own = D.own dir.new }) meter.old meter.new) }
     ensures err { IfErr result (λ status. FailsSession status job number (record { told = D.told dir.old; own = D.own dir.old }) (record { told = D.told dir.new; own = D.own dir.new }) (D.faults dir.old) (D.faults dir.new)) }
@@ -91,7 +92,7 @@ fn publish<D: Dir>(
 }
 
 /// Builds what the words and the source ask for.
-pub(crate) fn build<S: Source, D: Dir>(
+pub(crate) fn build<S: Source, D: Dir<Saved>>(
     alloc: Global,
     words: &[&str],
     src: &mut S,

@@ -8,6 +8,7 @@ use crate::output::{deliver, emitted_line, refuse};
 use crate::status::Status;
 use inc_base::{Failed, Memory, Meter, Sink, Source};
 use inc_dir::Dir;
+use inc_session::Saved;
 use std::alloc::Global;
 
 /// Runs the command of these words: today `build --crate NAME --root DIR --src FILE --image FILE`.
@@ -17,7 +18,7 @@ use std::alloc::Global;
 /// (docs/ARCHITECTURE.md, "Statuses"), and whichever that is, no session of its own runs at its exit. The
 /// order of the refusals is that of the words, the source, the text, the session, `out` and `image`; want of
 /// memory may come at any of them. It waits for nobody and returns.
-pub fn run<S: Source, D: Dir, O: Sink, I: Sink>(
+pub fn run<S: Source, D: Dir<Saved>, O: Sink, I: Sink>(
     alloc: Global,
     words: &[&str],
     src: &mut S,

@@ -1,3 +1,4 @@
 pub mod Promises
 pub mod Replays
 pub mod Memories
+pub mod Kept

@@ -6,17 +6,20 @@ ghost use Rattle.inc_proto.specs.declared.event.Event.{Event};
 ghost use Rattle.inc_proto.specs.declared.event.Event.TheVariants.{Begin, Left};
 ghost use Rattle.inc_proto.specs.Events.{latest};
 ghost use Rattle.inc_proto.specs.Growth.{TellsOn, AddsOne};
-ghost use Rattle.inc_dir.specs.Promises.{Could, TellsStep};
+ghost use Rattle.inc_proto.specs.Legal.{IsLegal};
+ghost use Rattle.inc_dir.specs.Promises.{IsOwed, TellsStep};
 
 use inc_base::{Job, Memory};
 use inc_fs::{Op, Reply};
+use inc_proto::Content;
 
-/// A directory that a session works in, beside others (docs/PROTOCOL.md, "What a directory promises").
+/// A directory that a session works in, beside others, whose sessions publish this content
+/// (docs/PROTOCOL.md, "What a directory promises").
 ///
 /// It may tell its history, the newest event first. Where it does, it goes on telling it, and each call
-/// adds others' events and then its own. After `Memory` at most others' events were added. Its count of
-/// faults never falls, and stands still at the end of `u64`.
-pub trait Dir {
+/// adds others' events and then its own; a legal history stays legal. After `Memory` at most others' events
+/// were added. Its count of faults never falls, and stands still at the end of `u64`.
+pub trait Dir<C: Content> {
     ghost told: { Self → Option (List Event) };
 
     /// The numbers of its own sessions in the told history, the latest first. Where nothing is told it never
@@ -34,19 +37,21 @@ pub trait Dir {
         ensures runs { runs self.new ≡ is_ok result }
         ensures one { OnOk result (AddsOne (told self.old) (own self.old) (own self.new)) }
         ensures none { OnErr result (own self.new ≡ own self.old) }
-        ensures ok { OnOk result (TellsOn Could (own self.new) (told self.old) (told self.new) (Begin (latest (own self.new)) job ∷ [])) }
-        ensures err { OnErr result (TellsOn Could (own self.old) (told self.old) (told self.new) []) }
+        ensures ok { OnOk result (TellsOn (IsLegal C.files) (own self.new) (told self.old) (told self.new) (Begin (latest (own self.new)) job ∷ [])) }
+        ensures err { OnErr result (TellsOn (IsLegal C.files) (own self.old) (told self.old) (told self.new) []) }
         ensures faults { faults self.old ≤ faults self.new };
 
-    /// Makes one step. The reply is one of the step's row, whatever the directory is; `Fault` comes only
-    /// where the count rose.
+    /// Makes one step, which the session's own steps permit where the told history is legal. The reply is
+    /// one of the step's row, whatever the directory is; `Fault` comes only where the count rose. A renaming
+    /// that isn't permitted is answered `Fault`, and isn't made.
     fn act(&mut self, op: Op) -> Result<Reply, Memory>
-        requires { runs self.old ≡ true }
+        requires running { runs self.old ≡ true }
+        requires permitted { IsOwed C.files C.clear (told self.old) (own self.old) op }
         ensures runs { runs self.new ≡ true }
         ensures own { own self.new ≡ own self.old }
         ensures kind { IfOk result (λ reply. IsKindOf op reply) }
-        ensures ok { IfOk result (λ reply. TellsStep (own self.old) (told self.old) (told self.new) op reply) }
-        ensures err { OnErr result (TellsOn Could (own self.old) (told self.old) (told self.new) []) }
+        ensures ok { IfOk result (λ reply. TellsStep C.files (own self.old) (told self.old) (told self.new) op reply) }
+        ensures err { OnErr result (TellsOn (IsLegal C.files) (own self.old) (told self.old) (told self.new) []) }
         ensures faults { faults self.old ≤ faults self.new }
         ensures cause { IfOk result (λ reply. reply ≡ Fault → Rose (faults self.old) (faults self.new)) };
 
@@ -55,6 +60,6 @@ pub trait Dir {
         requires { runs self.old ≡ true }
         ensures runs { runs self.new ≡ false }
         ensures own { own self.new ≡ own self.old }
-        ensures told { TellsOn Could (own self.old) (told self.old) (told self.new) (Left (latest (own self.old)) None 0 ∷ []) }
+        ensures told { TellsOn (IsLegal C.files) (own self.old) (told self.old) (told self.new) (Left (latest (own self.old)) None 0 ∷ []) }
         ensures faults { faults self.old ≤ faults self.new };
 }

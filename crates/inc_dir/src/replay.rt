@@ -10,6 +10,7 @@ use crate::dir::Dir;
 use crate::faults::faults_after;
 use inc_base::{Copied, Job, List, Memory};
 use inc_fs::{Op, Reply, is_kind_of};
+use inc_proto::Content;
 use std::marker::Model;
 
 /// A directory that answers from a list, and tells nothing.
@@ -84,7 +85,7 @@ impl ReplayDir {
     }
 }
 
-impl Dir for ReplayDir {
+impl<C: Content> Dir<C> for ReplayDir {
     ghost told = { λ _. None };
 
     ghost runs = { λ d. d.runs };

@@ -5,6 +5,7 @@ use crate::stop::Failure;
 use inc_base::{Job, Memory};
 use inc_dir::Dir;
 use inc_fs::{Op, Reply};
+use inc_proto::Content;
 use std::fs::{File, Files};
 use std::marker::Model;
 use std::time::Clock;
@@ -59,7 +60,7 @@ impl<R: Files<File = File> + AllocGlobal + Clock + Drop> RealDir<R> {
     }
 }
 
-impl<R: Files<File = File> + AllocGlobal + Clock + Drop> Dir for RealDir<R> {
+impl<R: Files<File = File> + AllocGlobal + Clock + Drop, C: Content> Dir<C> for RealDir<R> {
     ghost told = { λ _. None };
 
     ghost runs = { λ d. d.runs };

@@ -3,3 +3,5 @@ pub mod Machine
 pub mod MachineLaws
 pub mod Published
 pub mod PublishedLaws
+pub mod Saves
+pub mod PermittedLaws

@@ -6,7 +6,7 @@ use Rattle.inc_fs.specs.State.{Text}
 use Rattle.inc_fs.specs.declared.op.Op.{Op}
 use Rattle.inc_fs.specs.declared.op.Op.TheVariants as op
 use Rattle.inc_fs.specs.declared.op.Reply.{Reply}
-use Rattle.inc_fs.specs.declared.op.Reply.TheVariants.{Drawn, Handle, Names, Fault}
+use Rattle.inc_fs.specs.declared.op.Reply.TheVariants.{Drawn, Handle, Fault}
 use Rattle.inc_names.specs.Entries.{lock_text}
 use Rattle.inc_names.specs.declared.session.SessionName.{SessionName}
 use Rattle.inc_proto.specs.Events.{Steps}

@@ -6,11 +6,14 @@ ghost use Rattle.inc_fs.specs.declared.op.Op.{Op};
 ghost use Rattle.inc_fs.specs.declared.op.Reply.{Reply};
 ghost use Rattle.inc_fs.specs.State.{State};
 ghost use Rattle.inc_proto.specs.Events.{Steps};
+ghost use Rattle.inc_proto.specs.Files.{Files, IsSet};
 ghost use Rattle.inc_proto.specs.Growth.{IsOfOther};
+ghost use Rattle.inc_proto.specs.Permits.{IsPermitted};
 ghost use Rattle.inc_proto.specs.Leads.{LeadsTo};
 ghost use Rattle.inc_proto.specs.declared.event.Event.{Event};
-ghost use Rattle.inc_session.specs.Machine.{Going, HasMade, begun, fed, left_of};
+ghost use Rattle.inc_session.specs.Machine.{Going, HasMade, begun, fed, left_of, plan_of};
 ghost use Rattle.inc_session.specs.Order.{Plan, Found};
+ghost use Rattle.inc_session.specs.Saves.{files_of_number};
 ghost use Rattle.inc_session.specs.Published.{IsNew, Publishes, whole_run};
 
 /// A session that begins has made no step, and asks for the first one of its order.
@@ -27,6 +30,13 @@ pub fn feeding_keeps_order()
 /// Each reply leaves a session fewer steps to make, so that it ends.
 pub fn feeding_comes_to_an_end()
     ensures { (g : Going) (asked : Op) (reply : Reply) → g.op ≡ Some asked → left_of (fed g reply).op (fed g reply).stage < left_of g.op g.stage }
+{}
+
+/// Where a session came by its order, its own steps permit the step that it asks for, if what it is to
+/// publish is its job's set.
+pub fn steps_are_permitted()
+    ensures { (files : Files) (job : Job) (g : Going) (asked : Op) (steps : Steps) → g.plan ≡ plan_of job g.number → IsSet files job (files_of_number g.number)
+        → g.op ≡ Some asked → HasMade g steps → IsPermitted files job steps asked }
 {}
 
 /// A session that begins, makes its nine steps and leaves, with no others' events among its own, leaves

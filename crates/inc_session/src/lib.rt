@@ -7,13 +7,15 @@
 
 mod laws;
 mod outcome;
+mod saved;
 mod session;
 mod stage;
 
 pub use laws::{
     beginning_is_in_order, feeding_comes_to_an_end, feeding_keeps_order,
-    publishing_changes_its_own, unheard_sessions_are_new,
+    publishing_changes_its_own, steps_are_permitted, unheard_sessions_are_new,
 };
 pub use outcome::Outcome;
+pub use saved::Saved;
 pub use session::Session;
 pub use stage::Stage;

@@ -106,7 +106,7 @@ impl Session {
 }
 
 /// The text of the root unit's object file, as a label.
-fn object_file(alloc: Global) -> Result<Label, Memory>
+pub(crate) fn object_file(alloc: Global) -> Result<Label, Memory>
     ensures { IfOk result (λ label. label ≡ codes "u-crate.o") }
 {
     match Label::of(alloc, OBJECT_FILE)? {

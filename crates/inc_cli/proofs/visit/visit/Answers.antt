@@ -1,7 +1,15 @@
 use Rattle.std.proofs.Common.{inr}
 use Rattle.std.proofs.lemmas.Result.{on_ok_weaker, on_err_weaker}
+use Rattle.inc_cli.proofs.Seeing.{sees_begun}
 use Rattle.inc_cli.proofs.Visiting.{has_visited, has_left}
 use Rattle.inc_cli.proofs.visit.visit.Goals as goal
+
+pub drive-driven-requires-clause-sees : goal.drive-driven-requires-clause-sees
+drive-driven-requires-clause-sees g c = (
+  c.args.job,
+  c.requires.publishes,
+  sees_begun (g.D.Dir.own c.begin.new.self) c.args.job (g.D.Dir.own c.args.dir.now) (g.D.Dir.told c.args.dir.now) (g.D.Dir.told c.begin.new.self) c.in_ok-begin.ensures.one c.in_ok-begin.ensures.ok,
+)
 
 pub returns-clause-ok : goal.returns-clause-ok
 returns-clause-ok g c =

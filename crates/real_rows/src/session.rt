@@ -5,6 +5,7 @@ use inc_base::{Bytes, Compiler, Job, Memory, Name, VERSION};
 use inc_dir::Dir;
 use inc_fs::{Op, Reply};
 use inc_real::RealDir;
+use inc_session::Saved;
 
 /// A session that runs in a folder of the system.
 #[derive(Drop)]
@@ -28,12 +29,12 @@ impl Session {
             text: Bytes::new(rt.alloc()),
         };
         let mut dir = RealDir::new(rt, root, 7)?;
-        dir.begin(job)?;
+        <RealDir<HostRuntime> as Dir<Saved>>::begin(&mut dir, job)?;
         Ok(Session { dir })
     }
 
     /// Makes a step.
     pub fn step(&mut self, op: Op) -> Result<Reply, Memory> {
-        self.dir.act(op)
+        <RealDir<HostRuntime> as Dir<Saved>>::act(&mut self.dir, op)
     }
 }

@@ -1,8 +1,8 @@
 //! Runs rows of steps on a folder of the system, which its one word names, and prints the reply to each: what the real
 //! directory does to files, shown by examples.
 //!
-//! Standard input has the rows; `stdout` beside it has what must come, written from docs/PROTOCOL.md and not from the
-//! program. The script `tests/planted` gives it others, on folders in which it planted what no build makes. `inc_real` and
+//! Standard input has the rows; `stdout` beside it has what must come, each reply read against docs/PROTOCOL.md. The
+//! script `tests/planted` gives it others, on folders in which it planted what no build makes. `inc_real` and
 //! what it stands on are below. Open `row` first, for how a step is written.
 #![tactic(auto)]
 

@@ -18,7 +18,7 @@ use Rattle.inc_fs.specs.declared.op.Reply.{Reply}
 use Rattle.inc_fs.specs.declared.op.Reply.TheVariants.{Drawn, Handle, Names, Bytes, Missing}
 use Rattle.inc_names.specs.declared.entry.Entry.TheVariants.{Final}
 use Rattle.inc_names.specs.declared.session.SessionName.{SessionName}
-use Rattle.inc_names.specs.Entries.{final_text}
+use Rattle.inc_names.specs.Entries.{final_text, IsSessionName}
 use Rattle.inc_names.specs.EntryLaws.{same_final_text, same_final_name}
 use Rattle.inc_wire.specs.Forms.{job_hash_of}
 use Rattle.inc_proto.specs.declared.event.Event.{Event}
@@ -140,6 +140,9 @@ module _ (files : Files) (job : Job) where
       let m = made (Draw, Drawn moment random) steps c in
       let l = laws_at (Draw, Drawn moment random) steps c.who c.events m in
       m.step_is.1 (l.names_once.known c.who (record { moment = moment; random = random }) (subst (λ ss. IsIn (draws ss) (record { moment = moment; random = random })) (sym m.own_is) within))
+
+  pub pair_range : (moment random : ℕ) (steps : Steps) → CanBe files job ((Draw, Drawn moment random) ∷ steps) → IsSessionName (record { moment = moment; random = random })
+  pair_range moment random steps c = let m = made (Draw, Drawn moment random) steps c in record { moment = m.step_is.3; random = m.step_is.4 }
 
   new_handle : (step : Op × Reply) (steps : Steps) (who : ℕ) (all : List Event) (m : Made files job step steps who all) (h : ℕ) → ¬ IsIn m.before.given h → (opening h steps ≡ None) × (since h steps ≡ None)
   new_handle step steps who all m h unknown =

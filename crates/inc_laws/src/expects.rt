@@ -13,7 +13,7 @@ ghost use Rattle.inc_fs.specs.declared.op.Reply.{Reply};
 ghost use Rattle.inc_fs.specs.declared.op.Reply.TheVariants.{Drawn, Handle, Names, Missing};
 ghost use Rattle.inc_names.specs.declared.entry.Entry.{Entry};
 ghost use Rattle.inc_names.specs.declared.session.SessionName.{SessionName};
-ghost use Rattle.inc_names.specs.Entries.{final_text};
+ghost use Rattle.inc_names.specs.Entries.{final_text, IsSessionName};
 ghost use Rattle.inc_proto.specs.declared.event.Event.{Event};
 ghost use Rattle.inc_proto.specs.declared.own.Known.{Known};
 ghost use Rattle.inc_proto.specs.declared.own.OwnLock.TheVariants.{Locked};
@@ -34,9 +34,10 @@ pub fn own_steps_are_answered_in_kind()
     ensures before { (files : Files) (job : Job) (step : Op × Reply) (steps : Steps) → CanBe files job (step ∷ steps) → CanBe files job steps }
 {}
 
-/// A session draws no name twice.
+/// A session draws no name twice, and each in range.
 pub fn drawn_names_are_new()
-    ensures { (files : Files) (job : Job) (moment random : ℕ) (steps : Steps) → CanBe files job ((Draw, Drawn moment random) ∷ steps) → ¬ IsIn (draws steps) (record { moment = moment; random = random }) }
+    ensures range { (files : Files) (job : Job) (moment random : ℕ) (steps : Steps) → CanBe files job ((Draw, Drawn moment random) ∷ steps) → IsSessionName (record { moment = moment; random = random }) }
+    ensures new { (files : Files) (job : Job) (moment random : ℕ) (steps : Steps) → CanBe files job ((Draw, Drawn moment random) ∷ steps) → ¬ IsIn (draws steps) (record { moment = moment; random = random }) }
 {}
 
 /// A handle that a session gets, by opening a lock file or by making one, wasn't open, and held nothing.

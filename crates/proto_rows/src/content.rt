@@ -6,9 +6,9 @@ use inc_base::{Bytes, Compiler, Job, Label, List, Memory, Name, VERSION};
 use inc_proto::Content;
 use std::alloc::Global;
 
-/// A job of the crate `k` with this text.
-pub fn job(alloc: Global, text: &str) -> Result<Option<Job>, Memory> {
-    let Some(krate) = Name::of(alloc, b"k")? else {
+/// A job of this crate with this text.
+pub fn job(alloc: Global, krate: &[u8], text: &str) -> Result<Option<Job>, Memory> {
+    let Some(krate) = Name::of(alloc, krate)? else {
         return Ok(None);
     };
     let compiler = Compiler {

@@ -1,8 +1,9 @@
-//! Runs rows of steps on a ground, and prints what comes of each: what a session may do, shown by examples.
+//! Runs rows of steps on a ground, and prints what comes of each: what a session may do, and what every legal history
+//! keeps, shown by examples.
 //!
 //! Standard input has the rows, a case after the other; `stdout` beside it has what must come, written from
 //! docs/PROTOCOL.md and not from the program. `content` is what the sessions are to publish: a table of three jobs.
-//! `inc_proto` and what it stands on are below. Open `row` first, for how a step is written.
+//! `inc_laws`, `inc_proto` and what they stand on are below. Open `row` first, for how a step is written.
 #![tactic(auto)]
 
 mod content;

@@ -2,17 +2,20 @@
 
 use inc_base::Memory;
 use inc_fs::Reply;
+use inc_names::Entry;
 use std::alloc::Global;
 use std::fmt;
 use std::fmt::{Display, Formatter, Write};
 
-/// What came of a row: that it isn't permitted, that the session left, or the reply. Of names and bytes it is how many
-/// there are.
+/// What came of a row: that it isn't permitted, that the session left, the reply, or what a question about the ground
+/// was answered. Of names and bytes it is how many there are, of an entry the moment of its session's name.
 #[derive(Drop)]
 pub enum Came {
     NotPermitted,
     Left,
     Replied(Reply),
+    Counted(u32),
+    Found(Option<Entry>),
 }
 
 /// As it is printed.
@@ -26,7 +29,17 @@ impl Display for Came {
             Came::NotPermitted => f.write_str("not permitted"),
             Came::Left => f.write_str("done"),
             Came::Replied(reply) => print(reply, f),
+            Came::Counted(count) => write!(f, "count {count}"),
+            Came::Found(entry) => print_found(entry, f),
         }
+    }
+}
+
+fn print_found<W: Write>(found: &Option<Entry>, f: &mut Formatter<W>) -> fmt::Result {
+    match found {
+        Some(Entry::Final(name, _)) => write!(f, "entry {}", name.moment),
+        Some(_) => f.write_str("no finalised entry"),
+        None => f.write_str("none"),
     }
 }
 

@@ -1,6 +1,6 @@
 //! Steps as the rows write them: words with blanks between. An entry is `lock:M`, `working:M`, `final:M:TEXT` with the
-//! hash of the job of that text, or `wrong:M` with a hash of no job; M is the moment of the session's name, whose random
-//! part is 0.
+//! hash of the crate's job of that text, or `wrong:M` with a hash of no job; M is the moment of the session's name, whose
+//! random part is 0.
 
 use crate::content::job;
 use inc_base::{Bytes, Label, Memory};
@@ -43,14 +43,20 @@ pub fn chance(words: &[&str]) -> Chance {
     }
 }
 
-fn hash_of(alloc: Global, text: &str) -> Result<Option<u128>, Memory> {
-    match job(alloc, text)? {
+fn hash_of(alloc: Global, krate: &Label, text: &str) -> Result<Option<u128>, Memory> {
+    match job(alloc, krate.bytes(), text)? {
         Some(job) => Ok(Some(job_hash(alloc, &job)?)),
         None => Ok(None),
     }
 }
 
-fn entry_of(alloc: Global, kind: &str, moment: u64, text: &str) -> Result<Option<Entry>, Memory> {
+fn entry_of(
+    alloc: Global,
+    krate: &Label,
+    kind: &str,
+    moment: u64,
+    text: &str,
+) -> Result<Option<Entry>, Memory> {
     let name = SessionName { moment, random: 0 };
     if kind == "lock" {
         return Ok(Some(Entry::Lock(name)));
@@ -61,13 +67,13 @@ fn entry_of(alloc: Global, kind: &str, moment: u64, text: &str) -> Result<Option
     if kind == "wrong" {
         return Ok(Some(Entry::Final(name, 7)));
     }
-    match hash_of(alloc, text)? {
+    match hash_of(alloc, krate, text)? {
         Some(hash) => Ok(Some(Entry::Final(name, hash))),
         None => Ok(None),
     }
 }
 
-fn entry(alloc: Global, word: &str) -> Result<Option<Label>, Memory> {
+fn entry(alloc: Global, krate: &Label, word: &str) -> Result<Option<Label>, Memory> {
     let mut parts = word.split(':');
     let kind = parts.next().unwrap_or("");
     let moment = parts.next().unwrap_or("");
@@ -75,7 +81,7 @@ fn entry(alloc: Global, word: &str) -> Result<Option<Label>, Memory> {
     let Ok(moment) = moment.parse::<u64>() else {
         return Ok(None);
     };
-    match entry_of(alloc, kind, moment, text)? {
+    match entry_of(alloc, krate, kind, moment, text)? {
         Some(entry) => Ok(Some(entry_text(alloc, &entry)?)),
         None => Ok(None),
     }
@@ -116,7 +122,7 @@ fn close(words: &[&str]) -> Option<Op> {
 }
 
 fn on_entry(alloc: Global, krate: Label, words: &[&str]) -> Result<Option<Op>, Memory> {
-    let Some(entry) = entry(alloc, word(words, 1))? else {
+    let Some(entry) = entry(alloc, &krate, word(words, 1))? else {
         return Ok(None);
     };
     Ok(match word(words, 0) {
@@ -130,8 +136,12 @@ fn on_entry(alloc: Global, krate: Label, words: &[&str]) -> Result<Option<Op>, M
     })
 }
 
-fn entry_and_file(alloc: Global, words: &[&str]) -> Result<Option<(Label, Label)>, Memory> {
-    let Some(entry) = entry(alloc, word(words, 1))? else {
+fn entry_and_file(
+    alloc: Global,
+    krate: &Label,
+    words: &[&str],
+) -> Result<Option<(Label, Label)>, Memory> {
+    let Some(entry) = entry(alloc, krate, word(words, 1))? else {
         return Ok(None);
     };
     match Label::of(alloc, word(words, 2).as_bytes())? {
@@ -141,7 +151,7 @@ fn entry_and_file(alloc: Global, words: &[&str]) -> Result<Option<(Label, Label)
 }
 
 fn on_file(alloc: Global, krate: Label, words: &[&str]) -> Result<Option<Op>, Memory> {
-    let Some((entry, file)) = entry_and_file(alloc, words)? else {
+    let Some((entry, file)) = entry_and_file(alloc, &krate, words)? else {
         return Ok(None);
     };
     Ok(match word(words, 0) {
@@ -174,7 +184,7 @@ fn append_piece(
     words: &[&str],
     piece: Bytes,
 ) -> Result<Option<Op>, Memory> {
-    let Some((entry, file)) = entry_and_file(alloc, words)? else {
+    let Some((entry, file)) = entry_and_file(alloc, &krate, words)? else {
         return Ok(None);
     };
     Ok(Some(Op::Append {
@@ -185,25 +195,29 @@ fn append_piece(
     }))
 }
 
-fn two_entries(alloc: Global, words: &[&str]) -> Result<Option<(Label, Label)>, Memory> {
-    let Some(from) = entry(alloc, word(words, 1))? else {
+fn two_entries(
+    alloc: Global,
+    krate: &Label,
+    words: &[&str],
+) -> Result<Option<(Label, Label)>, Memory> {
+    let Some(from) = entry(alloc, krate, word(words, 1))? else {
         return Ok(None);
     };
-    match entry(alloc, word(words, 2))? {
+    match entry(alloc, krate, word(words, 2))? {
         Some(to) => Ok(Some((from, to))),
         None => Ok(None),
     }
 }
 
 fn rename(alloc: Global, krate: Label, words: &[&str]) -> Result<Option<Op>, Memory> {
-    let Some((from, to)) = two_entries(alloc, words)? else {
+    let Some((from, to)) = two_entries(alloc, &krate, words)? else {
         return Ok(None);
     };
     Ok(Some(Op::Rename { krate, from, to }))
 }
 
 fn link(alloc: Global, krate: Label, words: &[&str]) -> Result<Option<Op>, Memory> {
-    let Some((from, to)) = two_entries(alloc, words)? else {
+    let Some((from, to)) = two_entries(alloc, &krate, words)? else {
         return Ok(None);
     };
     match Label::of(alloc, word(words, 3).as_bytes())? {

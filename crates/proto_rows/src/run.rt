@@ -3,8 +3,9 @@
 use crate::content::{Fixed, job};
 use crate::reply::{Came, text_of};
 use crate::row::{chance, op_of, word};
-use inc_base::Memory;
+use inc_base::{Memory, Name};
 use inc_fs::{Chance, Op};
+use inc_laws::{loaded_is_whole, names_once, newest_stands};
 use inc_proto::Ground;
 use std::alloc::Global;
 use std::mem;
@@ -39,8 +40,10 @@ impl Run {
         }
     }
 
-    /// Does what a line says: `case` begins anew, `job` begins a session, `in` names the crate directory, and any other
-    /// line is a step. What comes of a step is answered, and None of other lines.
+    /// Does what a line says: `case` begins anew, `job` begins a session of a crate, `in` names the crate directory,
+    /// `names`, `newest` and `loaded` ask for the count of drawn names, for the crate's newest entry and for what a
+    /// session that runs has loaded, and any other line is a step. What comes of a step or a question is answered, and
+    /// None of other lines.
     fn line(&mut self, line: &str) -> Result<Option<Came>, Memory> {
         let mut words = Vec::new(self.alloc);
         for word in line.split_whitespace() {
@@ -48,8 +51,11 @@ impl Run {
         }
         match word(&words, 0) {
             "case" => self.case(),
-            "job" => self.job(word(&words, 1)),
+            "job" => self.job(word(&words, 1), word(&words, 2)),
             "in" => self.enter(word(&words, 1)),
+            "names" => Ok(Some(Came::Counted(names_once(&self.ground)))),
+            "newest" => newest(self.alloc, &self.ground, self.krate.as_str()),
+            "loaded" => loaded(&self.ground, word(&words, 1)),
             _ => self.step(&words),
         }
     }
@@ -61,8 +67,8 @@ impl Run {
         Ok(None)
     }
 
-    fn job(&mut self, text: &str) -> Result<Option<Came>, Memory> {
-        match job(self.alloc, text)? {
+    fn job(&mut self, krate: &str, text: &str) -> Result<Option<Came>, Memory> {
+        match job(self.alloc, krate.as_bytes(), text)? {
             Some(job) => {
                 self.ground.begin(job)?;
                 Ok(None)
@@ -92,6 +98,30 @@ impl Run {
             None => Ok(None),
         }
     }
+}
+
+/// The newest entry of a crate.
+fn newest(alloc: Global, ground: &Ground<Fixed>, krate: &str) -> Result<Option<Came>, Memory> {
+    match Name::of(alloc, krate.as_bytes())? {
+        Some(krate) => {
+            let found = newest_stands(ground, &krate);
+            drop(krate);
+            Ok(Some(Came::Found(found?)))
+        }
+        None => Ok(None),
+    }
+}
+
+/// What a session has loaded, where it runs.
+fn loaded(ground: &Ground<Fixed>, who: &str) -> Result<Option<Came>, Memory> {
+    let Ok(who) = who.parse::<u32>() else {
+        return Ok(None);
+    };
+    ground.legal();
+    if !ground.runs(who) {
+        return Ok(Some(Came::NotPermitted));
+    }
+    Ok(Some(Came::Found(loaded_is_whole(ground, who)?)))
 }
 
 /// Makes a step where it is permitted.

@@ -1,9 +1,9 @@
 -- What legal histories answer a session, as its own steps tell it.
-use Rattle.std.specs.Prelude.{◌≡◌, ◌==◌, ◌++◌, ℕ, Bool, true, false, cond, List, [], ◌∷◌, refl, Option, Some, None, IsSome, is_some}
-use Rattle.std.specs.Map.{lookup}
+use Rattle.std.specs.Prelude.{◌≡◌, ◌==◌, ◌++◌, ℕ, Bool, true, false, cond, List, [], ◌∷◌, refl, Option, Some, None, IsSome, is_some, ◌⊎◌}
+use Rattle.std.specs.Map.{lookup, keys_of}
 use Rattle.std.specs.BTreeMap.{is_at}
 use Rattle.std.specs.Option.{option_map, option_and_then}
-use Rattle.std.proofs.Common.{ap, sym, subst, ◌∙◌}
+use Rattle.std.proofs.Common.{ap, sym, subst, ◌∙◌, inl, inr}
 use Rattle.std.proofs.lemmas.Bool.{eqb-true}
 use Rattle.std.proofs.lemmas.List.{append_assoc}
 use Rattle.inc_base.specs.declared.job.Job.{Job}
@@ -13,12 +13,12 @@ use Rattle.inc_fs.specs.Readings.{bytes_of, file_is}
 use Rattle.inc_fs.specs.State.{State, Text, IsIn, text_cmp, folder_at, number_at, named}
 use Rattle.inc_fs.specs.Step.{Step, Reads}
 use Rattle.inc_fs.specs.declared.op.Op.{Op}
-use Rattle.inc_fs.specs.declared.op.Op.TheVariants.{Draw, MakeLock, OpenLock, Look, Read, Unlink}
+use Rattle.inc_fs.specs.declared.op.Op.TheVariants.{Draw, MakeLock, OpenLock, Look, Read, Unlink, TryLock, ListDir, Link, Close}
 use Rattle.inc_fs.specs.declared.op.Reply.{Reply}
-use Rattle.inc_fs.specs.declared.op.Reply.TheVariants.{Drawn, Handle, Names, Bytes, Missing}
+use Rattle.inc_fs.specs.declared.op.Reply.TheVariants.{Drawn, Handle, Names, Bytes, Missing, Got, Done}
 use Rattle.inc_names.specs.declared.entry.Entry.TheVariants.{Final}
 use Rattle.inc_names.specs.declared.session.SessionName.{SessionName}
-use Rattle.inc_names.specs.Entries.{final_text, IsSessionName}
+use Rattle.inc_names.specs.Entries.{final_text, IsSessionName, lock_text}
 use Rattle.inc_names.specs.EntryLaws.{same_final_text, same_final_name}
 use Rattle.inc_wire.specs.Forms.{job_hash_of}
 use Rattle.inc_proto.specs.declared.event.Event.{Event}
@@ -31,8 +31,8 @@ use Rattle.inc_proto.specs.Finals.{Publication, entry_of, published}
 use Rattle.inc_proto.specs.Leads.{LeadsTo}
 use Rattle.inc_proto.specs.Legal.{MayDo, AreAllowed, IsLegal}
 use Rattle.inc_proto.specs.LegalLaws.{legal_before}
-use Rattle.inc_proto.specs.Permits.{IsHash, HasDir}
-use Rattle.inc_proto.specs.Views.{opening, since, own, dir}
+use Rattle.inc_proto.specs.Permits.{IsHash, HasDir, IsOn, MayLink}
+use Rattle.inc_proto.specs.Views.{opening, since, own, dir, HasAny, IsListing, begun, grown}
 use Rattle.inc_laws.specs.Fair.{CanBe, LoadsSet}
 use Rattle.inc_laws.specs.Laws.{Laws}
 use Rattle.inc_laws.specs.Loads.{HasLoad}
@@ -40,7 +40,7 @@ use Rattle.inc_laws.specs.Readings.{running, draws, head_of, jobs_of, names_of, 
 use Rattle.inc_laws.specs.Readings.Site.{Out}
 use Rattle.inc_laws.proofs.FromLaws.{links_published}
 use Rattle.inc_laws.proofs.Fresh.{unopened, unheld}
-use Rattle.inc_laws.proofs.Gave.{gave}
+use Rattle.inc_laws.proofs.Gave.{gave, listed, stands_set, one_made}
 use Rattle.inc_laws.proofs.InPlace.{some_same}
 use Rattle.inc_laws.proofs.Lasting.{may_parts, laws_hold}
 use Rattle.inc_laws.proofs.Latest.{same_step}
@@ -48,6 +48,9 @@ use Rattle.inc_laws.proofs.Newest.{outs_stay, published_outs}
 use Rattle.inc_laws.proofs.Next.{runs_job}
 use Rattle.inc_laws.proofs.Own.{Owners, out_name, one_out}
 use Rattle.inc_laws.proofs.Replies.{own_found, one_final}
+use Rattle.inc_laws.specs.Invariants.{HasShown}
+use Rattle.inc_laws.proofs.Stays.{stands_hold}
+use Rattle.inc_laws.proofs.Whole.{in_found}
 
 -- ---- The event of an own step.
 
@@ -248,3 +251,111 @@ loads_set files job n hash names steps c load =
   where
     final_is : (m n : SessionName) (h k : ℕ) → Final m h ≡ Final n k → (m ≡ n) × (h ≡ k)
     final_is m n h k is = (cc, cc)
+
+-- ---- A directory that is held.
+
+module _ (P : Op × Reply → Type 0) where
+  any_grown : (step : Op × Reply) (steps : Steps) (o : Option Steps) (after : Steps) → ((s : Steps) → o ≡ Some s → HasAny P s → HasAny P steps) → grown step o ≡ Some after → HasAny P after → HasAny P (step ∷ steps)
+  any_grown step steps None after ih is any = cc
+  any_grown step steps (Some s) after ih is any = go (subst (HasAny P) (sym (the_steps (step ∷ s) after is)) any)
+    where
+      the_steps : (x y : Steps) → Some x ≡ Some y → x ≡ y
+      the_steps x y is = cc
+
+      go : P step ⊎ HasAny P s → P step ⊎ HasAny P steps
+      go (inl at) = inl at
+      go (inr earlier) = inr (ih s refl earlier)
+
+  any_begun : (step : Op × Reply) (steps : Steps) (o : Option Steps) (after : Steps) → ((s : Steps) → o ≡ Some s → HasAny P s → HasAny P steps) → begun step o ≡ Some after → HasAny P after → HasAny P (step ∷ steps)
+  any_begun step steps None after ih is any = absurd (subst (HasAny P) (sym (the_steps [] after is)) any)
+    where
+      the_steps : (x y : Steps) → Some x ≡ Some y → x ≡ y
+      the_steps x y is = cc
+  any_begun step steps (Some s) after ih is any = any_grown step steps (Some s) after ih is any
+
+  -- what stands among the steps since a handle holds its lock stands among the steps
+  any_since : (h : ℕ) (steps : Steps) (after : Steps) → since h steps ≡ Some after → HasAny P after → HasAny P steps
+  any_since h [] after is any = cc
+  any_since h ((TryLock handle exclusive, Got) ∷ steps) after is any = go (any_since h steps) (handle == h) is
+    where
+      go : ((s : Steps) → since h steps ≡ Some s → HasAny P s → HasAny P steps) → (b : Bool)
+          → cond b (begun (TryLock handle exclusive, Got) (since h steps)) (grown (TryLock handle exclusive, Got) (since h steps)) ≡ Some after → HasAny P ((TryLock handle exclusive, Got) ∷ steps)
+      go ih true is = any_begun (TryLock handle exclusive, Got) steps (since h steps) after ih is any
+      go ih false is = any_grown (TryLock handle exclusive, Got) steps (since h steps) after ih is any
+  any_since h ((Close handle, Done) ∷ steps) after is any = go (any_since h steps) (handle == h) is
+    where
+      go : ((s : Steps) → since h steps ≡ Some s → HasAny P s → HasAny P steps) → (b : Bool) → cond b None (grown (Close handle, Done) (since h steps)) ≡ Some after → HasAny P ((Close handle, Done) ∷ steps)
+      go ih true is = cc
+      go ih false is = any_grown (Close handle, Done) steps (since h steps) after ih is any
+  any_since h (step ∷ steps) after is any = any_grown step steps (since h steps) after (any_since h steps) is any
+
+-- a listing of a directory, with all that it lists
+abbrev IsNaming : Text → Text → List Text → Op × Reply → Type 0
+IsNaming krate entry names step = step ≡ (ListDir krate entry, Names names)
+
+naming_by : (krate entry file : Text) (op : Op) (reply : Reply) → IsListing krate entry file (op, reply) → (names : List Text) × IsIn names file × IsNaming krate entry names (op, reply)
+naming_by krate entry file (ListDir k e) (Names names) is = (names, is.2, (λ i. (ListDir (is.0 i) (is.1 i), Names names)))
+naming_by krate entry file op reply is = absurd is
+
+any_naming : (krate entry file : Text) (steps : Steps) → HasAny (IsListing krate entry file) steps → (names : List Text) × IsIn names file × HasAny (IsNaming krate entry names) steps
+any_naming krate entry file [] any = absurd any
+any_naming krate entry file (step ∷ steps) (inl is) = let w = naming_by krate entry file step.0 step.1 is in (w.0, w.1, inl w.2)
+any_naming krate entry file (step ∷ steps) (inr any) = let w = any_naming krate entry file steps any in (w.0, w.1, inr w.2)
+
+module _ (files : Files) (job : Job) (krate : Text) (n : SessionName) (hash h : ℕ) (after steps : Steps) (on : IsOn krate (lock_text n) (opening h steps)) (held : since h steps ≡ Some after) (shown : HasShown krate (final_text n hash) after) where
+  -- it stands when the next step is made
+  stands : (step : Op × Reply) (who : ℕ) (all : List Event) (m : Made files job step steps who all) → IsSome (folder_at m.before krate (final_text n hash))
+  stands step who all m =
+      (stands_hold files m.events m.before m.leads m.allowed).stands who h krate n hash after (ap is_some m.runs) (subst (λ ss. IsOn krate (lock_text n) (opening h ss)) (sym m.own_is) on) (ap (since h) m.own_is ∙ held) shown
+
+  none_there : {A : Type 0} (o : Option A) → o ≡ None → IsSome o → ⊥
+  none_there o none some = cc
+
+  -- so it can be listed,
+  pub listing_there : ¬ CanBe files job ((ListDir krate (final_text n hash), Missing) ∷ steps)
+  listing_there c =
+      let m = made files job (ListDir krate (final_text n hash), Missing) steps c in
+      none_there (folder_at m.before krate (final_text n hash)) m.step_is.0 (stands (ListDir krate (final_text n hash), Missing) c.who c.events m)
+
+  -- and what was listed can be linked
+  module _ (to file : Text) (c : CanBe files job ((Link krate (final_text n hash) to file, Missing) ∷ steps)) where
+    m : Made files job (Link krate (final_text n hash) to file, Missing) steps c.who c.events
+    m = made files job (Link krate (final_text n hash) to file, Missing) steps c
+
+    its : MayLink (own_steps c.who m.events) krate (final_text n hash) to file
+    its = (may_parts files m.events c.who (Link krate (final_text n hash) to file) m.may).2
+
+    l : Laws files m.events m.before
+    l = laws_hold files m.events m.before m.leads m.allowed
+
+    own_there : IsSome (folder_at m.before krate to)
+    own_there = let old = l.own_dir c.who its.6.0 krate to its.0 (ap is_some m.runs) its.6.1 its.5 in ap is_some old.1
+
+    file_there : (folder : List (Text × ℕ)) → folder_at m.before krate (final_text n hash) ≡ Some folder → IsSome (number_at m.before krate (final_text n hash) file)
+    file_there folder is =
+        let named_so = any_naming krate (final_text n hash) file (own_steps c.who m.events) (any_since (IsListing krate (final_text n hash) file) its.3 (own_steps c.who m.events) its.4 its.11.1 its.12) in
+        let before = listed files m.events m.before m.leads m.allowed c.who krate n hash named_so.0 named_so.2 in
+        let now = stands_set files m.events m.before m.leads m.allowed krate n hash folder is in
+        let same : now.made.job ≡ before.made.job = one_made files m.events m.before m.leads m.allowed now.made before.made now.within before.within (now.of_crate ∙ sym before.of_crate) (now.entry ∙ sym before.entry) in
+        let same_set : now.set ≡ before.set = one_set now.set before.set (sym now.of_job ∙ ap files same ∙ before.of_job) in
+        let keys : named_so.0 ≡ keys_of folder = before.keys ∙ ap keys_of (sym same_set) ∙ sym now.keys in
+        subst IsSome (sym (ap (option_and_then (named file)) is)) (in_found folder file (subst (λ ns. IsIn ns file) keys named_so.1))
+      where
+        one_set : (a b : List (Text × Text)) → Some a ≡ Some b → a ≡ b
+        one_set a b same = cc
+
+    source_there : IsSome (number_at m.before krate (final_text n hash) file)
+    source_there = go (folder_at m.before krate (final_text n hash)) refl (stands (Link krate (final_text n hash) to file, Missing) c.who c.events m)
+      where
+        go : (o : Option (List (Text × ℕ))) → folder_at m.before krate (final_text n hash) ≡ o → IsSome o → IsSome (number_at m.before krate (final_text n hash) file)
+        go None is some = cc
+        go (Some folder) is some = file_there folder is
+
+    link_there : ⊥
+    link_there = elim m.step_is.0 [
+      | inl gone ↦ none_there (number_at m.before krate (final_text n hash) file) gone source_there
+      | inr gone ↦ none_there (folder_at m.before krate to) gone own_there
+    ]
+
+  pub linking_there : (to file : Text) → ¬ CanBe files job ((Link krate (final_text n hash) to file, Missing) ∷ steps)
+  linking_there to file c = link_there to file c

@@ -123,7 +123,7 @@ published_last (Did w op reply ∷ later) earlier made within = go (is_publishin
     go false old = old
 
 -- one job at most was published under an entry of a crate
-one_made : (files : Files) (events : List Event) (F : State) → LeadsTo events F → AreAllowed files events → (a b : Publication) → IsIn (published events) a → IsIn (published events) b
+pub one_made : (files : Files) (events : List Event) (F : State) → LeadsTo events F → AreAllowed files events → (a b : Publication) → IsIn (published events) a → IsIn (published events) b
     → a.job.krate ≡ b.job.krate → entry_of a ≡ entry_of b → a.job ≡ b.job
 one_made files events F leads allowed a b in_a in_b same_krate same_entry =
     let l = laws_hold files events F leads allowed in
@@ -147,7 +147,7 @@ pub record StandsSet (files : Files) (events : List Event) (F : State) (krate : 
   pub keys : keys_of folder ≡ keys_of set
   pub holds : HoldsSet (bytes_of F) folder set
 
-stands_set : (files : Files) (events : List Event) (F : State) → LeadsTo events F → AreAllowed files events → (krate : Text) (n : SessionName) (hash : ℕ) (folder : List (Text × ℕ))
+pub stands_set : (files : Files) (events : List Event) (F : State) → LeadsTo events F → AreAllowed files events → (krate : Text) (n : SessionName) (hash : ℕ) (folder : List (Text × ℕ))
     → folder_at F krate (final_text n hash) ≡ Some folder → StandsSet files events F krate n hash folder
 stands_set files events F leads allowed krate n hash folder stands =
     let l = laws_hold files events F leads allowed in
@@ -203,17 +203,17 @@ module _ (files : Files) (events : List Event) (G : State) (leads : LeadsTo even
       subst (λ es. IsIn (published es) made) (sym is) (published_last later (Did who op reply ∷ earlier) made (published_last (Did who op reply ∷ []) earlier made within))
 
   -- when it was listed, that directory was published, and held the set of its job
-  record Listed (names : List Text) : Type 0 where
-    made : Publication
-    within : IsIn (published events) made
-    of_crate : made.job.krate ≡ krate
-    entry : entry_of made ≡ final_text n hash
-    set : List (Text × Text)
-    of_job : IsSet files made.job set
-    sorted : Ascend (keys_of set)
-    keys : names ≡ keys_of set
+  pub record Listed (names : List Text) : Type 0 where
+    pub made : Publication
+    pub within : IsIn (published events) made
+    pub of_crate : made.job.krate ≡ krate
+    pub entry : entry_of made ≡ final_text n hash
+    pub set : List (Text × Text)
+    pub of_job : IsSet files made.job set
+    pub sorted : Ascend (keys_of set)
+    pub keys : names ≡ keys_of set
 
-  listed : (names : List Text) → HasAny (λ step. step ≡ (ListDir krate (final_text n hash), Names names)) (own_steps who events) → Listed names
+  pub listed : (names : List Text) → HasAny (λ step. step ≡ (ListDir krate (final_text n hash), Names names)) (own_steps who events) → Listed names
   listed names any =
       let e = event_of (λ step. step ≡ (ListDir krate (final_text n hash), Names names)) who events any in
       at e.0 e.1 (e.4 ∙ (λ i. e.0 ++ Did who ((e.5 i).0) ((e.5 i).1) ∷ e.1))

@@ -96,7 +96,7 @@ module _ {V : Type 0} where
     | inr off ↦ inr (found_in es q (subst (λ b. IsSome (cond b (Some e.1) (lookup (is_at (text_cmp q)) es))) off some))
   ]
 
-  in_found : (es : List (Text × V)) (q : Text) → IsIn (keys_of es) q → IsSome (lookup (is_at (text_cmp q)) es)
+  pub in_found : (es : List (Text × V)) (q : Text) → IsIn (keys_of es) q → IsSome (lookup (is_at (text_cmp q)) es)
   in_found [] q within = absurd within
   in_found (e ∷ es) q within = go (in_found es q) (is_eq (text_cmp q e.0)) refl
     where

@@ -8,12 +8,12 @@ ghost use Rattle.inc_fs.specs.Kinds.{IsKindOf};
 ghost use Rattle.inc_fs.specs.State.{State, Text, IsIn, text_cmp, number_at};
 ghost use Rattle.inc_fs.specs.Step.{Step};
 ghost use Rattle.inc_fs.specs.declared.op.Op.{Op};
-ghost use Rattle.inc_fs.specs.declared.op.Op.TheVariants.{Draw, MakeLock, OpenLock, Look, Unlink};
+ghost use Rattle.inc_fs.specs.declared.op.Op.TheVariants.{Draw, MakeLock, OpenLock, Look, ListDir, Link, Unlink};
 ghost use Rattle.inc_fs.specs.declared.op.Reply.{Reply};
 ghost use Rattle.inc_fs.specs.declared.op.Reply.TheVariants.{Drawn, Handle, Names, Missing};
 ghost use Rattle.inc_names.specs.declared.entry.Entry.{Entry};
 ghost use Rattle.inc_names.specs.declared.session.SessionName.{SessionName};
-ghost use Rattle.inc_names.specs.Entries.{final_text, IsSessionName};
+ghost use Rattle.inc_names.specs.Entries.{lock_text, final_text, IsSessionName};
 ghost use Rattle.inc_proto.specs.declared.event.Event.{Event};
 ghost use Rattle.inc_proto.specs.declared.own.Known.{Known};
 ghost use Rattle.inc_proto.specs.declared.own.OwnLock.TheVariants.{Locked};
@@ -21,9 +21,10 @@ ghost use Rattle.inc_proto.specs.Events.{Steps, own_steps};
 ghost use Rattle.inc_proto.specs.Files.{Files};
 ghost use Rattle.inc_proto.specs.Leads.{LeadsTo};
 ghost use Rattle.inc_proto.specs.Legal.{AreAllowed};
-ghost use Rattle.inc_proto.specs.Permits.{HasDir, IsHash};
+ghost use Rattle.inc_proto.specs.Permits.{HasDir, IsHash, IsOn};
 ghost use Rattle.inc_proto.specs.Views.{opening, since, own, dir};
 ghost use Rattle.inc_proto.specs.Views.Dir.{Stands};
+ghost use Rattle.inc_laws.specs.Invariants.{HasShown};
 ghost use Rattle.inc_laws.specs.Fair.{CanBe, LoadsSet};
 ghost use Rattle.inc_laws.specs.Loads.{IsLoaded, HasLoad, GaveSet};
 ghost use Rattle.inc_laws.specs.Readings.{running, draws};
@@ -62,6 +63,15 @@ pub fn listings_have_one_final()
         → (n : SessionName) (h k : ℕ) → IsIn names (final_text n h) → IsIn names (final_text n k) → final_text n h ≡ final_text n k }
     ensures own { (files : Files) (job : Job) (krate : Text) (names : List Text) (n : SessionName) (h k : ℕ) (steps : Steps) → IsHash h → IsHash k → CanBe files job ((Look krate, Names names) ∷ steps)
         → IsIn names (final_text n h) → IsIn names (final_text n k) → h ≡ k }
+{}
+
+/// A finalised directory that a session holds, and has listed since without renaming it, stands: it can be listed, and
+/// each file that was listed there can be linked into the session's own directory.
+pub fn held_directories_are_found()
+    ensures listed { (files : Files) (job : Job) (krate : Text) (n : SessionName) (hash h : ℕ) (after steps : Steps) → IsOn krate (lock_text n) (opening h steps) → since h steps ≡ Some after
+        → HasShown krate (final_text n hash) after → ¬ CanBe files job ((ListDir krate (final_text n hash), Missing) ∷ steps) }
+    ensures linked { (files : Files) (job : Job) (krate : Text) (n : SessionName) (hash h : ℕ) (after steps : Steps) → IsOn krate (lock_text n) (opening h steps) → since h steps ≡ Some after
+        → HasShown krate (final_text n hash) after → (to file : Text) → ¬ CanBe files job ((Link krate (final_text n hash) to file, Missing) ∷ steps) }
 {}
 
 /// What a session linked as a whole set is the file set of a job of its crate, which was published under the name

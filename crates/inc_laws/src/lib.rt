@@ -21,8 +21,9 @@ pub use events::{
     beginnings_keep_laws, leavings_keep_laws, legal_histories_keep_laws, the_start_keeps_laws,
 };
 pub use expects::{
-    drawn_names_are_new, given_handles_are_new, listings_have_one_final, loads_are_one,
-    own_files_are_found, own_steps_are_answered_in_kind, whole_loads_are_published,
+    drawn_names_are_new, given_handles_are_new, held_directories_are_found,
+    listings_have_one_final, loads_are_one, own_files_are_found, own_steps_are_answered_in_kind,
+    whole_loads_are_published,
 };
 pub use invariants::{events_leave_alone, the_invariants_hold};
 pub use loads::loaded_is_whole;

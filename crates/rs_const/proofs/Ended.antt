@@ -1,17 +1,33 @@
 -- What each value is in the end.
 use Rattle.std.proofs.Common.{◌≡◌, ℕ, suc, Bool, List, [], ◌∷◌, length, Option, Some, None, refl, sym, ap, subst, ◌∙◌, arith, Vec, Global}
-use Rattle.std.specs.Prelude.{slice_get, is_some}
+use Rattle.std.specs.Prelude.{slice_get, slice_index_or, is_some}
 use Rattle.std.specs.Option.{option_map_or}
 use Rattle.std.proofs.lemmas.List.{length-map}
 use Rattle.std.proofs.lemmas.Option.{slice_get_within}
 use Rattle.rs_tree.specs.declared.answers.Const.{Const}
 use Rattle.rs_reach.specs.Search.{Path}
+use Rattle.rs_tree.specs.declared.answers.Const.TheVariants.{Bad}
 use Rattle.rs_reach.specs.Reached.{IsReachedFrom}
+use Rattle.rs_reach.specs.Cycles.{AreCyclic}
+use Rattle.rs_reach.proofs.Round.{cyclic_at}
 use Rattle.rs_const.specs.Constants.{Entry, names, named_by, IsInCycle, IsValue, AreValues}
-use Rattle.rs_const.specs.State.{Values, Lists, AreSettled, AreNames, IsStuck, AreEnds}
+use Rattle.rs_const.specs.State.{Values, Lists, AreSettled, AreNames, IsStuck, IsEnd, AreEnds, end_of}
 use Rattle.rs_const.proofs.Lists.{same_marks}
 use Rattle.rs_const.proofs.Settling.{its_names, slice_get_past_is}
 use Rattle.rs_const.proofs.Stuck.{bad_at, settled_value}
+
+-- by marks for cycles each has its end
+pub end_is : (its : Lists) (marks : List Bool) → AreCyclic its marks → (i : ℕ) (o : Option Const) (c : Const) → c ≡ end_of (slice_index_or marks i Bool.false) o → IsEnd its i o c
+end_is its marks are i (Some d) c e = record { value = λ d' is. (let same : d ≡ d' = cc in e ∙ same); cycle = λ none. absurd cc; bad = λ none. absurd cc }
+end_is its marks are i None c e = record {
+  value = λ d is. absurd cc;
+  cycle = λ none r. e ∙ ap (λ b. end_of b None) ((cyclic_at its marks are i).1 r);
+  bad = λ none not. e ∙ by (slice_index_or marks i Bool.false) refl not;
+}
+  where
+    by : (b : Bool) → slice_index_or marks i Bool.false ≡ b → ¬ IsReachedFrom its i i → end_of b None ≡ Bad
+    by Bool.true is not = absurd (not ((cyclic_at its marks are i).0 is))
+    by Bool.false is not = refl
 
 module _ (known : List Entry) (its : Lists) (are : AreNames known its) where
   long : length known ≡ length its

@@ -1,7 +1,7 @@
 -- What paths are given, and values one settled more.
 use Rattle.std.proofs.Common.{◌≡◌, ℕ, ◌+◌, ◌<◌, ◌≤◌, ◌⊎◌, inl, inr, zero, suc, Bool, true, false, ◌&&◌, ◌||◌, List, [], ◌∷◌, length, set, Option, Some, None, refl, sym, ap, ◌∙◌, arith}
 use Rattle.std.specs.Prelude.{ℤ, is_none, is_some, slice_get, option_and_then}
-use Rattle.std.specs.List.{list_all, list_any, cons_option, Contains}
+use Rattle.std.specs.List.{list_all, list_any, cons_option}
 use Rattle.std.specs.Option.{option_map_or}
 use Rattle.rs_tree.specs.declared.answers.Const.{Const}
 use Rattle.rs_tree.specs.declared.answers.Found.{Found}
@@ -95,11 +95,6 @@ pub is_done_by : (values : Values) (i : ℕ) (c : Const) → slice_get values i 
 is_done_by values i c e = ap (λ (o : Option (Option Const)). option_map_or is_some o false) e
 
 -- what is in a list is in p, where all of the list is
-pub all_in : (p : ℕ → Bool) (xs : List ℕ) (b : ℕ) → list_all p xs ≡ true → Contains xs b → p b ≡ true
-all_in p [] b all h = absurd (omega (arith, h.1))
-all_in p (x ∷ xs) b all (zero, l, e) = sym (ap p e) ∙ (and_true (p x) (list_all p xs) all).0
-all_in p (x ∷ xs) b all (suc k, l, e) = all_in p xs b (and_true (p x) (list_all p xs) all).1 (k, omega (arith, l), e)
-
 pub all_weaker : (p q : ℕ → Bool) (xs : List ℕ) → ((j : ℕ) → p j ≡ true → q j ≡ true) → list_all p xs ≡ true → list_all q xs ≡ true
 all_weaker p q [] so all = refl
 all_weaker p q (x ∷ xs) so all = (let a = and_true (p x) (list_all p xs) all in λ i. (so x a.0 ∙ refl) i && all_weaker p q xs so a.1 i)

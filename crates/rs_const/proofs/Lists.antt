@@ -1,5 +1,5 @@
 -- Lists one element on.
-use Rattle.std.proofs.Common.{◌≡◌, ℕ, ◌+◌, ◌<◌, ◌⊎◌, inl, inr, zero, suc, List, [], ◌∷◌, ◌++◌, length, get_or, take, Option, Some, refl, sym, ap, ◌∙◌, arith}
+use Rattle.std.proofs.Common.{◌≡◌, ℕ, ◌+◌, ◌<◌, List, [], ◌∷◌, ◌++◌, length, get_or, take, Option, Some, refl, sym, ap, ◌∙◌, arith}
 use Rattle.std.specs.Prelude.{map, Bool, true, false, if◌then◌else◌, slice_get}
 use Rattle.std.specs.List.{cons_option, filter_map}
 use Rattle.std.proofs.lemmas.Option.{slice_get-get_or}
@@ -12,13 +12,6 @@ filtered_more h xs i x o l is has =
     ap (filter_map h) (take_more xs i x l)
     ∙ filter_map-append h (take i xs) (get_or xs i x ∷ [])
     ∙ (λ j. filter_map h (take i xs) ++ cons_option ((ap h (sym is) ∙ sym has) j) [])
-
--- an element of a list that has one more is an old one, or the last
-pub got_pushed : {A : Type 0} (xs : List A) (x y : A) (i : ℕ) → slice_get (xs ++ x ∷ []) i ≡ Some y → (slice_get xs i ≡ Some y) ⊎ ((i ≡ length xs) × (x ≡ y))
-got_pushed [] x y zero e = inr (refl, cc)
-got_pushed [] x y (suc i) e = absurd cc
-got_pushed (z ∷ xs) x y zero e = inl e
-got_pushed (z ∷ xs) x y (suc i) e = elim (got_pushed xs x y i e) [ inl h ↦ inl h | inr h ↦ inr (ap (λ n. suc n) h.0, h.1) ]
 
 pub same_marks : {A B C : Type 0} (c : C) (xs : List A) (ys : List B) → length xs ≡ length ys → map (λ x. c) xs ≡ map (λ y. c) ys
 same_marks c [] [] e = refl

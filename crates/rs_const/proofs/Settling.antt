@@ -12,7 +12,8 @@ use Rattle.rs_reach.specs.Reached.{every}
 use Rattle.rs_reach.specs.Search.{Path}
 use Rattle.rs_const.specs.Constants.{Entry, names, named_by, names_of, number, worth_by, value_at, sigs_of, worth, IsInCycle}
 use Rattle.rs_const.specs.State.{Values, Lists, opens, number_at, done, is_done, is_open, is_ready, names_at, AreSettled, AreNames}
-use Rattle.rs_const.proofs.Given.{and_true, given_same, none_at, got_set, got_other, done_set, open_is, done_is, is_done_by, all_in, all_weaker}
+use Rattle.rs_const.proofs.Given.{and_true, given_same, none_at, got_set, got_other, done_set, open_is, done_is, is_done_by, all_weaker}
+use Rattle.rs_reach.proofs.Round.{all_in}
 
 -- what the lists say that an expression names
 pub its_names : (known : List Entry) (its : Lists) (i : ℕ) → AreNames known its → names_of known i ≡ option_map (λ (v : Vec ℕ Global). v.items) (slice_get its i)

@@ -58,6 +58,12 @@ IsStuck its values = (i : ℕ) → is_ready its values i ≡ false
 abbrev pub AreNames : List Entry → Lists → Type 0
 AreNames known its = map (λ (v : Vec ℕ Global). v.items) its ≡ map (λ (e : Entry). named_by (names known) e.2) known
 
+-- its value, where it is settled; else by whether it is in a cycle
+abbrev pub end_of : Bool → Option Const → Const
+end_of cyclic (Some c) = c
+end_of true None = k.Cycle
+end_of false None = k.Bad
+
 -- in the end it has its value, where it is settled; else it is in a cycle or leads into one
 pub record IsEnd (its : Lists) (i : ℕ) (settled : Option Const) (c : Const) : Type 0 where
   pub value : (d : Const) → settled ≡ Some d → c ≡ d

@@ -5,7 +5,6 @@
 //! above. Open `specs/Constants.antt` for the rules.
 #![tactic(auto)]
 
-mod cycle;
 mod known;
 mod order;
 mod settle;

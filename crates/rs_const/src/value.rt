@@ -1,12 +1,13 @@
-ghost use Rattle.std.specs.Prelude.{◌≡◌, ℕ, Option, Some, None, IfOk, slice_get};
+ghost use Rattle.std.specs.Prelude.{◌≡◌, ℕ, Option, Some, None, false, IfOk, slice_get, slice_index_or};
 ghost use Rattle.rs_const.specs.Constants.{AreValues, IsValueAt, sigs_of};
-ghost use Rattle.rs_const.specs.State.{AreEnds, IsEnd};
+ghost use Rattle.rs_const.specs.State.{AreEnds, end_of};
 ghost use Rattle.rs_tree.specs.declared.answers.Const.{Const as Value};
 
-use crate::cycle::is_in_cycle;
 use crate::known::{Entry, names_of, places_of, sigs_of};
+use crate::order::order;
 use crate::settle::settle_all;
 use inc_base::{List, Memory};
+use rs_reach::in_cycles;
 use rs_tree::{Const, Place, Sig};
 use rs_types::Sigs;
 use std::alloc::Global;
@@ -57,34 +58,32 @@ fn finished(
 ) -> Result<Vec<Const>, Memory>
     ensures { IfOk result (λ cs. AreEnds its.now settled.now cs.items) }
 {
+    let order = order(alloc, its)?;
+    let cyclic = in_cycles(alloc, its, &order)?;
     let mut values = Vec::with_capacity(alloc, settled.len())?;
     for at in 0..settled.len() {
-        values.push(end(alloc, its, settled, at)?)?;
+        values.push(end(&cyclic, settled, at))?;
     }
     Ok(values)
 }
 
-fn end(
-    alloc: Global,
-    its: &[Vec<usize>],
-    settled: &[Option<Const>],
-    at: usize,
-) -> Result<Const, Memory>
-    ensures { IfOk result (λ c. (o : Option Value) → slice_get settled.now at ≡ Some o → IsEnd its.now at o c) }
+fn end(cyclic: &[bool], settled: &[Option<Const>], at: usize) -> Const
+    ensures { (o : Option Value) → slice_get settled.now at ≡ Some o → result ≡ end_of (slice_index_or cyclic.now at false) o }
 {
     match settled.get(at) {
-        Some(Some(value)) => Ok(*value),
-        Some(None) => unsettled(alloc, its, at),
-        None => Ok(Const::Bad),
+        Some(Some(value)) => *value,
+        Some(None) => unsettled(cyclic, at),
+        None => Const::Bad,
     }
 }
 
-fn unsettled(alloc: Global, its: &[Vec<usize>], at: usize) -> Result<Const, Memory>
-    ensures { IfOk result (λ c. IsEnd its.now at None c) }
+fn unsettled(cyclic: &[bool], at: usize) -> Const
+    ensures { result ≡ end_of (slice_index_or cyclic.now at false) None }
 {
-    match is_in_cycle(alloc, its, at)? {
-        true => Ok(Const::Cycle),
-        false => Ok(Const::Bad),
+    if at < cyclic.len() && cyclic[at] {
+        Const::Cycle
+    } else {
+        Const::Bad
     }
 }
 

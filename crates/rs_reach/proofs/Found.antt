@@ -29,7 +29,7 @@ module _ (may : List Bool) (ask : ℕ → Option (List ℕ)) where
 later : (c : ℕ) (cs : List ℕ) (b : ℕ) → Contains cs b → Contains (c ∷ cs) b
 later c cs b h = (suc h.0, omega (arith, h.1), h.2)
 
-and_true : (a b : Bool) → (a && b) ≡ true → (a ≡ true) × (b ≡ true)
+pub and_true : (a b : Bool) → (a && b) ≡ true → (a ≡ true) × (b ≡ true)
 and_true true b e = (refl, e)
 and_true false b e = absurd cc
 

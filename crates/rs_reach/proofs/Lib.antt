@@ -4,5 +4,6 @@ mod Kept
 mod Numbered
 mod Numbers
 mod Onward
+pub mod Round
 pub mod Steps
 mod Together

@@ -11,7 +11,7 @@ use Rattle.rs_reach.specs.Laws.{AreRoots}
 use Rattle.rs_reach.specs.Reached.{every, named, IsReachedFrom}
 use Rattle.rs_reach.proofs.Found.{is_added, all_added, distinct_added, may_below, ends, finds_reached, finds_once}
 
-only : (a x : ℕ) → Contains (a ∷ []) x → a ≡ x
+pub only : (a x : ℕ) → Contains (a ∷ []) x → a ≡ x
 only a x (zero, l, e) = e
 only a x (suc k, l, e) = absurd (omega (arith, l))
 

@@ -1,4 +1,5 @@
 pub mod Calls
+pub mod Cycles
 pub mod Dead
 pub mod Laws
 pub mod Places

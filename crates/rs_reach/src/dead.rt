@@ -35,7 +35,7 @@ fn push_left(to: &mut List<Place>, items: &[IndexItem], left: &[bool]) -> Result
         push_if(
             to,
             item,
-            is_function(item) && is_left(left, i) && !is_silent(item),
+            is_function(item) && is_marked(left, i) && !is_silent(item),
         )?;
     }
     Ok(())
@@ -104,10 +104,10 @@ pub(crate) fn place_of(item: &IndexItem) -> Result<Place, Memory>
     })
 }
 
-fn is_left(left: &[bool], i: usize) -> bool
-    ensures { result ≡ slice_index_or left.now i false }
+pub(crate) fn is_marked(marks: &[bool], at: usize) -> bool
+    ensures { result ≡ slice_index_or marks.now at false }
 {
-    i < left.len() && left[i]
+    at < marks.len() && marks[at]
 }
 
 fn is_function(item: &IndexItem) -> bool

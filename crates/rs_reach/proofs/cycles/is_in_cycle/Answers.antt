@@ -2,7 +2,7 @@ use Rattle.std.proofs.Common.{nat_eq, ap, sym, ◌∙◌}
 use Rattle.std.specs.List.{list_any}
 use Rattle.std.proofs.lemmas.Cmp.{nat_eq_equiv}
 use Rattle.std.proofs.lemmas.Map.Views.{Contains-from_any, list_any-from_Contains, exact_unsigned_eq}
-use Rattle.rs_const.proofs.cycle.is_in_cycle.Goals as goal
+use Rattle.rs_reach.proofs.cycles.is_in_cycle.Goals as goal
 
 pub returns : goal.returns
 returns c =

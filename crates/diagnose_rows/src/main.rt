@@ -1,0 +1,26 @@
+//! Prints what is said of texts: the diagnostics of each, shown by rows.
+//!
+//! Standard input has the texts, each under a heading; `stdout` beside it has what must come, written from docs/LANGUAGE.md
+//! and not from the program. `rs_queries` and what it stands on are below. Open `stdin` first, then `rows`.
+#![tactic(auto)]
+
+mod rows;
+
+use inc_base::Memory;
+use rows::Rows;
+use std::io;
+use std::io::{BufRead, BufReader, ErrorKind, Write};
+
+fn main(rt: HostRuntime) -> io::Result<()> {
+    let alloc = rt.alloc();
+    let mut rows = Rows::new(alloc);
+    for line in BufReader::new(alloc, rt.reader())?.split(alloc, b'\n') {
+        rows.read(&line?).map_err(out_of_memory)?;
+    }
+    let answers = rows.finish().map_err(out_of_memory)?;
+    io::writer(&rt).write_all(answers.as_slice())
+}
+
+fn out_of_memory(_: Memory) -> io::Error {
+    io::Error::from(ErrorKind::OutOfMemory)
+}

@@ -63,3 +63,4 @@ pub mod Gave
 pub mod Fresh
 pub mod Latest
 pub mod Answered
+pub mod Undisturbed

@@ -23,7 +23,7 @@ pub use events::{
 pub use expects::{
     drawn_names_are_new, given_handles_are_new, held_directories_are_found,
     listings_have_one_final, loads_are_one, own_files_are_found, own_steps_are_answered_in_kind,
-    whole_loads_are_published,
+    own_work_is_undisturbed, whole_loads_are_published,
 };
 pub use invariants::{events_leave_alone, the_invariants_hold};
 pub use loads::loaded_is_whole;

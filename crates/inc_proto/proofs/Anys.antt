@@ -51,7 +51,7 @@ in_at [] i d x within is = absurd (omega arith)
 in_at (y ∷ xs) zero d x within is = inl is
 in_at (y ∷ xs) (suc i) d x within is = inr (in_at xs i d x (omega arith) is)
 
-in_last : {X : Type 0} (xs : List X) (y x : X) → IsIn (xs ++ y ∷ []) x → IsIn xs x ⊎ (y ≡ x)
+pub in_last : {X : Type 0} (xs : List X) (y x : X) → IsIn (xs ++ y ∷ []) x → IsIn xs x ⊎ (y ≡ x)
 in_last [] y x (inl is) = inr is
 in_last [] y x (inr is) = absurd is
 in_last (z ∷ xs) y x (inl is) = inl (inl is)

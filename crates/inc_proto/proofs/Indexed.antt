@@ -29,6 +29,8 @@ use Rattle.inc_proto.specs.Views.{Opening, opening, opening_after, begun, grown,
 use Rattle.inc_proto.specs.Views.Opening.{Made, Opened}
 use Rattle.inc_names.specs.Entries.{lock_text}
 use Rattle.inc_proto.proofs.Anys.{in_left, in_end, next_first}
+use Rattle.inc_proto.specs.Lefts.{AreLeft, IsLeftBy}
+use Rattle.inc_proto.proofs.Remaining.{left_none, left_next, left_before}
 use Rattle.inc_proto.proofs.Lasts.{asked_next, made_next, unlinked_next, back_next, newest_next, nothing_told, newest_none, newest_before}
 use Rattle.inc_proto.proofs.Tells.{one_more, itself, set_here, set_there, puts, told_before, any_same, any_now, any_still, file_cmp_total, path_exact, file_exact}
 
@@ -213,8 +215,8 @@ looked_next step steps places told q = any_still (IsLook q.0 q.1) step steps (lo
 
 -- of no steps nothing is kept
 pub indexes_none : (index : Index) → index.holds ≡ [] → index.given ≡ [] → index.listed ≡ [] → index.looked ≡ [] → index.asked ≡ [] → index.made ≡ None
-    → index.unlinked ≡ [] → index.back ≡ [] → index.newest ≡ [] → Indexes [] index
-indexes_none index h g l k a m u b n = record {
+    → index.unlinked ≡ [] → index.back ≡ [] → index.newest ≡ [] → index.left ≡ [] → Indexes [] index
+indexes_none index h g l k a m u b n f = record {
   holds = subst (AreHolds []) (sym h) (λ h. record { opened = refl; held_at = both h });
   given = λ q h any. absurd any;
   listed = subst (AreListed []) (sym l) (λ q. nothing_told (IsListing q.0.0 q.0.1 q.1));
@@ -224,6 +226,7 @@ indexes_none index h g l k a m u b n = record {
   unlinked = subst (AreUnlinked []) (sym u) (λ q. nothing_told (IsDone (UnlinkLock q.0 q.1)));
   back = subst (AreBack []) (sym b) (λ krate entry n named. nothing_told (IsBack krate entry n));
   newest = subst (AreNewest []) (sym n) newest_none;
+  left = subst (AreLeft []) (sym f) left_none;
 }
   where
     both : (h : ℕ) (way : Way) → HeldAt (held way h []) [] (from_of way (kept_hold None))
@@ -234,8 +237,8 @@ indexes_none index h g l k a m u b n = record {
 pub indexed : (step : Op × Reply) (steps : Steps) (old new : Index) → new.holds ≡ holds_by step (length steps) (handle_of step) old.holds → new.given ≡ given_by step old.given
     → new.listed ≡ listed_by step (length steps) old.listed → new.looked ≡ looked_by step (length steps) old.looked → new.asked ≡ asked_by step (length steps) old.asked
     → new.made ≡ made_by step (length steps) old.made → new.unlinked ≡ unlinked_by step (length steps) old.unlinked → IsBackBy step (length steps) old.back new.back
-    → IsNewestBy step old.newest new.newest → Indexes steps old → Indexes (step ∷ steps) new
-indexed step steps old new h g l k a m u b n was = record {
+    → IsNewestBy step old.newest new.newest → IsLeftBy step (length steps) old.left new.left → Indexes steps old → Indexes (step ∷ steps) new
+indexed step steps old new h g l k a m u b n f was = record {
   holds = subst (AreHolds (step ∷ steps)) (sym h) (holds_next step steps old.holds was.holds);
   given = subst (AreGiven (step ∷ steps)) (sym g) (given_next step steps old.given was.given);
   listed = subst (AreListed (step ∷ steps)) (sym l) (listed_next step steps old.listed was.listed);
@@ -245,6 +248,7 @@ indexed step steps old new h g l k a m u b n was = record {
   unlinked = subst (AreUnlinked (step ∷ steps)) (sym u) (unlinked_next step steps old.unlinked was.unlinked);
   back = back_next step steps old.back new.back b was.back;
   newest = newest_next step steps old.newest new.newest n was.newest;
+  left = left_next step steps old.left new.left f was.left;
 }
 
 held_back : (since : Option Steps) (steps : Steps) (from : Option ℕ) → HeldAt (grown place since) (place ∷ steps) from → HeldAt since steps from
@@ -268,6 +272,7 @@ index_without_place steps index was = record {
   back = λ krate entry n named.
       before (IsBack krate entry n) (lookup (is_at (file_cmp ((krate, entry), lock_text n))) index.back) (λ is. is.2) (was.back krate entry n named);
   newest = newest_before place steps index.newest (λ krate entry is. is) was.newest;
+  left = left_before steps index.left was.left;
 }
   where
     before : (P : Op × Reply → Type 0) (at : Option ℕ) → (P place → ⊥) → Tells (HasAny P) (place ∷ steps) at → Tells (HasAny P) steps at
@@ -282,7 +287,7 @@ index_without_place steps index was = record {
 
 -- whether it is there or not
 pub index_with_place : (steps : Steps) (index : Index) → Indexes steps index → Indexes (place ∷ steps) index
-index_with_place steps index was = indexed place steps index index refl refl refl refl refl refl refl refl refl was
+index_with_place steps index was = indexed place steps index index refl refl refl refl refl refl refl refl refl refl was
 
 -- ---- The same, as the code comes to it.
 
@@ -297,12 +302,12 @@ put_next R key at names i name k old new within same key_is is =
 -- the same, of the place that the code has counted
 pub indexed_as : (step : Op × Reply) (steps : Steps) (at : ℕ) (old new : Index) → new.holds ≡ holds_by step at (handle_of step) old.holds → new.given ≡ given_by step old.given
     → new.listed ≡ listed_by step at old.listed → new.looked ≡ looked_by step at old.looked → new.asked ≡ asked_by step at old.asked → new.made ≡ made_by step at old.made
-    → new.unlinked ≡ unlinked_by step at old.unlinked → IsBackBy step at old.back new.back → IsNewestBy step old.newest new.newest → at ≡ length steps → Indexes steps old
+    → new.unlinked ≡ unlinked_by step at old.unlinked → IsBackBy step at old.back new.back → IsNewestBy step old.newest new.newest → IsLeftBy step at old.left new.left → at ≡ length steps → Indexes steps old
     → Indexes (step ∷ steps) new
-indexed_as step steps at old new h g l k a m u b n count was =
+indexed_as step steps at old new h g l k a m u b n f count was =
     indexed step steps old new (h ∙ ap (λ n. holds_by step n (handle_of step) old.holds) count) g (l ∙ ap (λ n. listed_by step n old.listed) count)
     (k ∙ ap (λ n. looked_by step n old.looked) count) (a ∙ ap (λ n. asked_by step n old.asked) count) (m ∙ ap (λ n. made_by step n old.made) count)
-    (u ∙ ap (λ n. unlinked_by step n old.unlinked) count) (subst (λ n. IsBackBy step n old.back new.back) count b) n was
+    (u ∙ ap (λ n. unlinked_by step n old.unlinked) count) (subst (λ n. IsBackBy step n old.back new.back) count b) n (subst (λ n. IsLeftBy step n old.left new.left) count f) was
 
 -- the index of one more of the steps
 pub indexed_next : (xs : Steps) (i : ℕ) (x : Op × Reply) (index next : Index) → i < length xs → x ≡ get_or xs i x → Indexes (reverse (take i xs)) index

@@ -319,7 +319,8 @@ both_told P Q steps (Some x) None told is p q =
 both_told P Q steps (Some x) (Some y) told (inl w) p q =
     subst (IsTold (HasAny (λ step. P step × Q step)) steps) (sym w.1)
     (said_at P Q steps x p (subst (λ m. Tells (HasAny Q) steps (Some m)) (sym w.0) q))
-both_told P Q steps (Some x) (Some y) told (inr is) p q = subst (IsTold (HasAny (λ step. P step × Q step)) steps) (sym is) tt
+both_told P Q steps (Some x) (Some y) told (inr is) p q =
+    subst (IsTold (HasAny (λ step. P step × Q step)) steps) (sym is) (λ after before split none. absurd none)
 
 -- ---- A lock file that stands.
 

@@ -2,10 +2,11 @@ pub mod Turned
 pub mod Kept
 pub mod Anys
 pub mod Brought
-pub mod Complete
+pub mod Wholes
 pub mod Helds
 pub mod Tells
 pub mod Lasts
+pub mod Remaining
 pub mod Indexed
 pub mod Holding
 pub mod Given

@@ -1,7 +1,10 @@
 -- Parts of the permissions that are asked of a session's own steps.
-use Rattle.std.specs.Prelude.{◌≡◌, ℕ, List, Some}
+use Rattle.std.specs.Prelude.{◌≡◌, ℕ, List, [], ◌∷◌, Option, Some, None}
+use Rattle.std.specs.List.Sorted.{IsStrictlySortedBy}
+use Rattle.std.specs.Map.{lookup, keys_of}
+use Rattle.std.specs.BTreeMap.{is_at}
 use Rattle.inc_base.specs.declared.job.Job.{Job}
-use Rattle.inc_fs.specs.Paths.{Text}
+use Rattle.inc_fs.specs.Paths.{Text, text_cmp}
 use Rattle.inc_names.specs.declared.session.SessionName.{SessionName}
 use Rattle.inc_names.specs.Entries.{lock_text, final_text, IsSessionName, IsNewer}
 use Rattle.inc_proto.specs.declared.holds.Way.TheVariants.{Alone}
@@ -26,3 +29,22 @@ HoldsBoth krate from n steps = (h : ℕ) × (after : Steps) × Holds Alone krate
 abbrev pub HasWanted : Files → Job → Dir → Text → Text → Type 0
 HasWanted files job d krate from =
     (its : List (Text × Known)) × (set : List (Text × Text)) × (d ≡ Stands krate from its) × (complete its ≡ Some set) × IsSet files job set
+
+-- the files of a directory that stands are in the order of their names
+abbrev pub AreOrdered : Dir → Type 0
+AreOrdered (Stands krate entry files) = IsStrictlySortedBy text_cmp (keys_of files)
+AreOrdered d = Unit {0}
+
+abbrev pub bytes_of : Option Known → Option Text
+bytes_of None = None
+bytes_of (Some known) = known.bytes
+
+-- the bytes of a file, where it is there and they are known
+abbrev pub bytes_at : Text → List (Text × Known) → Option Text
+bytes_at name files = bytes_of (lookup (is_at (text_cmp name)) files)
+
+-- these names are those of the wanted files, in their order, and each file is known to have the wanted bytes
+abbrev pub AreWanted : List (Text × Known) → List Text → List (Text × Text) → Type 0
+AreWanted files [] [] = Unit {0}
+AreWanted files (name ∷ names) (one ∷ wanted) = (name ≡ one.0) × (bytes_at name files ≡ Some one.1) × AreWanted files names wanted
+AreWanted files names wanted = ⊥

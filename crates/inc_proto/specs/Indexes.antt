@@ -14,6 +14,7 @@ use Rattle.inc_fs.specs.declared.op.Reply.TheVariants.{Handle, Names, Got, Done}
 use Rattle.inc_names.specs.declared.session.SessionName.{SessionName}
 use Rattle.inc_names.specs.Entries.{lock_text, final_text, IsSessionName, IsNewer}
 use Rattle.inc_proto.specs.Asked.{HasNewer}
+use Rattle.inc_proto.specs.Lefts.{AreLeft}
 use Rattle.inc_proto.specs.Permits.{IsHash}
 use Rattle.inc_proto.specs.declared.holds.Way.{Way}
 use Rattle.inc_proto.specs.declared.holds.Way.TheVariants.{Alone, ByOpening}
@@ -22,7 +23,7 @@ use Rattle.inc_proto.specs.declared.index.Handed.TheVariants.{Shut, MadeAt, Open
 use Rattle.inc_proto.specs.declared.index.Hold.{Hold}
 use Rattle.inc_proto.specs.declared.index.Index.{Index}
 use Rattle.inc_proto.specs.declared.index.Told.{Told}
-use Rattle.inc_proto.specs.declared.index.Told.TheVariants.{At, Untold}
+use Rattle.inc_proto.specs.declared.index.Told.TheVariants.{At, Surely}
 use Rattle.inc_proto.specs.Events.{Steps}
 use Rattle.inc_proto.specs.Sought.{IsOnBy, IsGiven, held, turn_of, turned_at}
 use Rattle.inc_proto.specs.Views.{Opening, opening, HasAny, IsLook, IsListing, IsDone, HasTried, HasTriedDir, HasDone}
@@ -218,6 +219,7 @@ pub record Indexes (steps : Steps) (index : Index) : Type 0 where
   pub unlinked : AreUnlinked steps index.unlinked
   pub back : AreBack steps index.back
   pub newest : AreNewest steps index.newest
+  pub left : AreLeft steps index.left
 
 -- ---- What is asked of it.
 
@@ -234,10 +236,10 @@ abbrev pub IsAnyHeld : Way → Path → Option ℕ → List (ℕ × Hold) → Li
 IsAnyHeld way path at holds handles =
     (h : ℕ) × IsIn handles h × IsHeldSince way path at (kept_hold (lookup (is_at (nat_cmp h)) holds))
 
--- this is when something was said last, where the index tells it
+-- this is when something was said last, or when it was surely said
 abbrev pub IsTold : (Steps → Type 0) → Steps → Told → Type 0
 IsTold Says steps (At at) = Tells Says steps at
-IsTold Says steps Untold = Unit {0}
+IsTold Says steps (Surely at) = (after before : Steps) → steps ≡ after ++ before → IsSince at (length before) → Says after
 
 -- when one of two things was said last, by when each of them was
 abbrev pub IsLater : Option ℕ → Option ℕ → Option ℕ → Type 0
@@ -247,7 +249,7 @@ IsLater x y at = (from : ℕ) → IsSince at from ↔ (IsSince x from ⊎ IsSinc
 abbrev pub IsBoth : Option ℕ → Option ℕ → Told → Type 0
 IsBoth None y told = told ≡ At None
 IsBoth (Some x) None told = told ≡ At None
-IsBoth (Some x) (Some y) told = ((x ≡ y) × (told ≡ At (Some x))) ⊎ (told ≡ Untold)
+IsBoth (Some x) (Some y) told = ((x ≡ y) × (told ≡ At (Some x))) ⊎ (told ≡ Surely None)
 
 -- when something was said last that wasn't taken back since, by when it was said and when it was taken back
 abbrev pub IsStill : Option ℕ → Option ℕ → Option ℕ → Type 0

@@ -13,6 +13,7 @@ pub mod Finals
 pub mod OwnDirs
 pub mod Clears
 pub mod Sought
+pub mod Lefts
 pub mod Indexes
 pub mod Asked
 pub mod Seen

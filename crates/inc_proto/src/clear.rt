@@ -12,7 +12,7 @@ use inc_base::{Copied, Label, List, Memory};
 use inc_fs::{Op, Reply};
 use inc_names::SessionName;
 
-fn take_out(names: &mut List<Label>, entry: &Label)
+pub(crate) fn take_out(names: &mut List<Label>, entry: &Label)
     ensures { names.new ≡ without entry.now names.old }
 {
     names.retain(|name| name != entry);

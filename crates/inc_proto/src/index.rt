@@ -7,9 +7,11 @@ ghost use Rattle.inc_proto.specs.Indexes.{handle_of, handed_by, hold_by, kept_ho
 
 mod asks;
 mod lasts;
+mod remains;
 
 use crate::holds::{Way, turn_of, turned_at};
 use crate::index::lasts::{made_by, note_asked, note_back, note_newest, note_unlinked};
+use crate::index::remains::note_left;
 use inc_base::{Copied, Label, List, Memory};
 use inc_fs::{Op, Reply, Table};
 use inc_names::SessionName;
@@ -42,8 +44,17 @@ pub(crate) struct Hold {
 pub(crate) enum Told {
     /// At the step of this place, or never.
     At(Option<usize>),
-    /// The index doesn't tell it.
-    Untold,
+    /// At the step of this place too, or the index doesn't tell it.
+    Surely(Option<usize>),
+}
+
+/// What is left of a session, by the latest `Look` that lists its lock file and the own steps since.
+#[derive(Drop)]
+pub(crate) struct Left {
+    /// The place of that `Look`.
+    at: usize,
+    /// Its directories, those that are left at least.
+    dirs: List<Label>,
 }
 
 /// What is kept of the steps.
@@ -68,6 +79,8 @@ pub(crate) struct Index {
     back: Table<((Label, Label), Label), usize>,
     /// The newest session of which a finalised directory was listed in a crate directory.
     newest: Table<Label, SessionName>,
+    /// What is left of each session, under its lock file.
+    left: Table<(Label, Label), Left>,
 }
 
 fn path_of(krate: &Label, entry: &Label) -> Result<(Label, Label), Memory>
@@ -288,7 +301,8 @@ fn note(index: &mut Index, step: &(Op, Reply), at: usize) -> Result<(), Memory>
     index.made = made_by(step, at, index.made);
     note_unlinked(&mut index.unlinked, step, at)?;
     note_back(&mut index.back, index.alloc, step, at)?;
-    note_newest(&mut index.newest, step)
+    note_newest(&mut index.newest, step)?;
+    note_left(&mut index.left, index.alloc, step, at)
 }
 
 impl Index {
@@ -307,6 +321,7 @@ impl Index {
             unlinked: Table::new(alloc),
             back: Table::new(alloc),
             newest: Table::new(alloc),
+            left: Table::new(alloc),
         }
     }
 }

@@ -28,44 +28,43 @@ fn is_published_as(view: &View, n: SessionName, to: &Label) -> Result<bool, Memo
     Ok(is_final_of(to, n, hash))
 }
 
-/// Whether the directory stands there, and is known to have exactly the job's files. It tells the directory
-/// from the steps, to go over its files by value.
+/// Whether the directory stands there, and is known to have exactly the job's files.
 fn has_wanted<C: Content>(
     view: &View,
+    its: &OwnDir,
     content: &C,
     krate: &Label,
     from: &Label,
 ) -> Result<bool, Memory>
+    requires { its.now ≡ dir view.now.steps }
     ensures { IfOk result (λ yes. IsTrue yes ↔ HasWanted C.files view.now.job (dir view.now.steps) krate.now from.now) }
 {
     let job = view.job();
-    let own = own_dir(job.text.allocator(), view.steps())?;
-    match content.wanted(job) {
-        Ok(Some(set)) => Ok(own.is_exactly(krate, from, set.as_slice())),
-        Ok(None) => {
-            drop(own);
-            Ok(false)
+    match content.wanted(job)? {
+        Some(set) => {
+            let yes = its.is_exactly(job.text.allocator(), krate, from, set.as_slice());
+            drop(set);
+            yes
         }
-        Err(refused) => {
-            drop(own);
-            Err(refused)
-        }
+        None => Ok(false),
     }
 }
 
 /// Whether n publishes its job's files, from there and under this name.
 fn publishes<C: Content>(
     view: &View,
+    its: &OwnDir,
     content: &C,
     n: SessionName,
     krate: &Label,
     from: &Label,
     to: &Label,
 ) -> Result<bool, Memory>
+    requires { its.now ≡ dir view.now.steps }
     ensures { IfOk result (λ yes. IsTrue yes ↔ ((to.now ≡ final_text n (job_hash_of view.now.job)) × HasWanted C.files view.now.job (dir view.now.steps) krate.now from.now)) }
 {
     if is_published_as(view, n, to)? {
-        has_wanted(view, content, krate, from)
+        has_wanted(view, its, content, krate, from)
     } else {
         Ok(false)
     }
@@ -85,7 +84,7 @@ fn may_publish<C: Content>(
     match view.name() {
         Some(n) => {
             if may_clear_own(its, view.own_lock(), krate, from) {
-                publishes(view, content, n, krate, from, to)
+                publishes(view, its, content, n, krate, from, to)
             } else {
                 Ok(false)
             }
@@ -168,12 +167,12 @@ impl View {
     /// (docs/PROTOCOL.md, "What a session may do"). `Memory` where there is no memory for the answer.
     ///
     /// Drawing, reading, creating, appending and clearing its own directory cost a look-up, and making a lock file or
-    /// a directory some. Linking, clearing another's directory and renaming one back cost some, and one for each
-    /// handle that the session was given on that name; renaming back where a lock file and a directory were listed
-    /// last by different `Look`s, and removing another's lock file, look through the session's own steps. Publishing,
-    /// where the directory stands and the new name is right, tells the directory from the steps and compares its
-    /// files with the wanted ones once. (Where there was no memory to keep the directory and the index of the steps,
-    /// these are looked through too.)
+    /// a directory some. Linking, clearing another's directory, renaming one back and removing another's lock file
+    /// cost some, and one for each handle that the session was given on that name; where the index doesn't tell
+    /// that renaming back or removing is permitted, they look through the session's own steps (docs/PERFORMANCE.md,
+    /// "What a session may do"). Publishing, where the directory stands and the new name is right, compares its files
+    /// with the wanted ones once. (Where there was no memory to keep the directory and the index of the steps, these
+    /// are looked through too.)
     pub fn permits<C: Content>(&self, content: &C, op: &Op) -> Result<bool, Memory>
         ensures { IfOk result (λ yes. IsTrue yes ↔ IsPermitted C.files self.now.job self.now.steps op.now) }
     {

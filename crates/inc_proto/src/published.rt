@@ -1,10 +1,15 @@
 //! Whether known files are exactly the wanted ones.
-ghost use Rattle.std.specs.Prelude.{◌≡◌, ◌↔◌, IsTrue, Some, None};
+ghost use Rattle.std.specs.Prelude.{◌≡◌, ◌↔◌, IsTrue, IfOk, Some, None};
+ghost use Rattle.std.specs.List.Sorted.{IsStrictlySortedBy};
+ghost use Rattle.std.specs.Map.{keys_of};
+ghost use Rattle.inc_fs.specs.Paths.{text_cmp};
+ghost use Rattle.inc_proto.specs.Asked.{bytes_at, AreWanted};
 ghost use Rattle.inc_proto.specs.Permits.{complete};
 
 use crate::own::Known;
-use inc_base::{Bytes, Label};
+use inc_base::{Bytes, Label, Memory};
 use inc_fs::Table;
+use std::alloc::Global;
 
 /// Whether these are the bytes of the file.
 fn has_bytes(known: &Known, bytes: &Bytes) -> bool
@@ -16,27 +21,44 @@ fn has_bytes(known: &Known, bytes: &Bytes) -> bool
     }
 }
 
-/// Whether this is that file with those bytes.
-fn is_file(pair: &(Label, Known), wanted: &(Label, Bytes)) -> bool
-    ensures { IsTrue result ↔ ((pair.now.0 ≡ wanted.now.0) × (pair.now.1.bytes ≡ Some wanted.now.1)) }
+/// Whether the file of this name is the wanted one, and is known to have its bytes.
+fn is_file(files: &Table<Label, Known>, name: &Label, wanted: &(Label, Bytes)) -> bool
+    ensures { IsTrue result ↔ ((name.now ≡ wanted.now.0) × (bytes_at name.now files.now ≡ Some wanted.now.1)) }
 {
-    pair.0 == wanted.0 && has_bytes(&pair.1, &wanted.1)
+    match files.get(name) {
+        Some(known) => *name == wanted.0 && has_bytes(known, &wanted.1),
+        None => false,
+    }
 }
 
-/// Whether the bytes of each of the files are known, and names and bytes are exactly these. It uses the
-/// files up.
-pub(crate) fn are_files(mut files: Table<Label, Known>, wanted: &[(Label, Bytes)]) -> bool
-    ensures { IsTrue result ↔ (complete files ≡ Some wanted.now) }
+/// Whether these are the names of the wanted files, in their order, and each file is known to have its bytes.
+fn are_wanted(files: &Table<Label, Known>, names: &[Label], wanted: &[(Label, Bytes)]) -> bool
+    ensures { IsTrue result ↔ AreWanted files.now names.now wanted.now }
 {
+    let mut rest = names;
     for one in wanted {
-        match files.pop_first() {
-            Some(pair) => {
-                if !is_file(&pair, one) {
+        match rest.split_first() {
+            Some((name, others)) => {
+                if !is_file(files, name, one) {
                     return false;
                 }
+                rest = others;
             }
             None => return false,
         }
     }
-    files.is_empty()
+    rest.is_empty()
+}
+
+/// Whether the bytes of each of the files are known, and names and bytes are exactly these. It goes over both once.
+pub(crate) fn are_files(
+    files: &Table<Label, Known>,
+    alloc: Global,
+    wanted: &[(Label, Bytes)],
+) -> Result<bool, Memory>
+    requires { IsStrictlySortedBy text_cmp (keys_of files.now) }
+    ensures { IfOk result (λ yes. IsTrue yes ↔ (complete files.now ≡ Some wanted.now)) }
+{
+    let names = files.keys(alloc)?;
+    Ok(are_wanted(files, names.as_slice(), wanted))
 }

@@ -9,10 +9,13 @@ ghost use Rattle.inc_names.specs.Entries.{lock_text};
 ghost use Rattle.inc_proto.specs.Events.{Steps};
 ghost use Rattle.inc_proto.specs.Sought.{IsOnBy, IsSought, Holds, Answers};
 ghost use Rattle.inc_proto.specs.Asked.{HasNewer};
+ghost use Rattle.inc_proto.specs.Clears.{HasClearLook};
+ghost use Rattle.inc_proto.specs.declared.index.Told.TheVariants.{Surely};
 ghost use Rattle.inc_proto.specs.Views.{HasAny, HasSeenBoth, IsStanding, alone};
 ghost use Rattle.inc_proto.specs.Indexes.{opening_of, from_of, kept_hold, handles_of, file_cmp, HeldBy, IsSince, IsHeldSince, IsAnyHeld, IsTold, IsLater, IsBoth, IsStill, IsBack, Tells, Indexes};
 
 use crate::holds::{Question, Way};
+use crate::index::remains::lock_path;
 use crate::index::{Handed, Hold, Index, Told, file_of, path_of};
 use crate::sought::Sought;
 use inc_base::{Label, Memory};
@@ -94,7 +97,7 @@ fn both_at(x: Option<usize>, y: Option<usize>) -> Told
             if one == other {
                 Told::At(Some(one))
             } else {
-                Told::Untold
+                Told::Surely(None)
             }
         }
         (Some(_), None) => Told::At(None),
@@ -224,7 +227,7 @@ impl Index {
                 Ok(Told::At(at))
             }
             Sought::DirMaking => Ok(Told::At(self.made)),
-            Sought::Newer(_, _) => Ok(Told::Untold),
+            Sought::Newer(_, _) => Ok(Told::Surely(None)),
         }
     }
 
@@ -235,9 +238,26 @@ impl Index {
         match self.last_of(one)? {
             Told::At(x) => match self.last_of(other)? {
                 Told::At(y) => Ok(Told::At(later(x, y))),
-                Told::Untold => Ok(Told::Untold),
+                Told::Surely(_) => Ok(Told::Surely(None)),
             },
-            Told::Untold => Ok(Told::Untold),
+            Told::Surely(_) => Ok(Told::Surely(None)),
+        }
+    }
+
+    /// The latest `Look` that lists n's lock file, where no directory of n is left of what it lists, by what is kept.
+    fn last_clear(&self, krate: &Label, n: SessionName) -> Result<Option<usize>, Memory>
+        ensures { IfOk result (λ at. (steps : Steps) → Indexes steps self.now → IsTold (HasClearLook krate.now n) steps (Surely at)) }
+    {
+        let path = lock_path(self.alloc, krate, n)?;
+        match self.left.get(&path) {
+            Some(left) => {
+                if left.dirs.is_empty() {
+                    Ok(Some(left.at))
+                } else {
+                    Ok(None)
+                }
+            }
+            None => Ok(None),
         }
     }
 
@@ -248,15 +268,11 @@ impl Index {
         match question {
             Question::Has(sought) => self.last_of(sought),
             Question::Either(one, other) => self.last_of_either(one, other),
-            Question::Clear(_, _) => Ok(Told::Untold),
+            Question::Clear(krate, n) => {
+                let at = self.last_clear(krate, n)?;
+                Ok(Told::Surely(at))
+            }
         }
-    }
-
-    fn lock_path(&self, krate: &Label, n: SessionName) -> Result<(Label, Label), Memory>
-        ensures { IfOk result (λ path. path ≡ (krate.now, lock_text n)) }
-    {
-        let lock = entry_text(self.alloc, &Entry::Lock(n))?;
-        path_of(krate, &lock)
     }
 
     /// Whether a handle that was given on this lock file has held it in this way since this was said last.
@@ -282,10 +298,17 @@ impl Index {
     {
         match self.told(question)? {
             Told::At(at) => {
-                let path = self.lock_path(krate, n)?;
+                let path = lock_path(self.alloc, krate, n)?;
                 Ok(Some(self.is_held_since(&path, way, at)))
             }
-            Told::Untold => Ok(None),
+            Told::Surely(at) => {
+                let path = lock_path(self.alloc, krate, n)?;
+                if self.is_held_since(&path, way, at) {
+                    Ok(Some(true))
+                } else {
+                    Ok(None)
+                }
+            }
         }
     }
 
@@ -295,7 +318,7 @@ impl Index {
     {
         match self.last_of(sought)? {
             Told::At(at) => Ok(Some(at.is_some())),
-            Told::Untold => Ok(None),
+            Told::Surely(_) => Ok(None),
         }
     }
 

@@ -1,9 +1,10 @@
 //! What is asked of a session's own directory.
-ghost use Rattle.std.specs.Prelude.{◌≡◌, ◌≢◌, ◌↔◌, ℕ, IsTrue, IfSome, IfNone, List, Some, None};
+ghost use Rattle.std.specs.Prelude.{◌≡◌, ◌≢◌, ◌↔◌, ℕ, IsTrue, IfOk, IfSome, IfNone, List, Some, None};
 ghost use Rattle.std.specs.Map.{lookup};
 ghost use Rattle.std.specs.BTreeMap.{is_at};
 ghost use Rattle.inc_fs.specs.Paths.{Text, text_cmp};
 ghost use Rattle.inc_names.specs.Entries.{final_text};
+ghost use Rattle.inc_proto.specs.Asked.{AreOrdered};
 ghost use Rattle.inc_proto.specs.Permits.{IsHash, complete};
 ghost use Rattle.inc_proto.specs.Views.Dir.{Unmade, Stands, Removed, Published};
 
@@ -11,9 +12,10 @@ use crate::own::Known;
 use crate::own_dir::{OwnDir, Site};
 use crate::published::are_files;
 use crate::sought::is_final_dir_of;
-use inc_base::{Bytes, Label};
+use inc_base::{Bytes, Label, Memory};
 use inc_fs::Table;
 use inc_names::SessionName;
+use std::alloc::Global;
 
 impl OwnDir {
     pub(crate) fn is_unmade(&self) -> bool
@@ -91,17 +93,19 @@ impl OwnDir {
     }
 
     /// Whether it stands at this path, and its files are known to be exactly these.
-    pub(crate) fn is_exactly(self, krate: &Label, entry: &Label, wanted: &[(Label, Bytes)]) -> bool
-        ensures { IsTrue result ↔ ((its : List (Text × Known)) × (self ≡ Stands krate.now entry.now its) × (complete its ≡ Some wanted.now)) }
+    pub(crate) fn is_exactly(
+        &self,
+        alloc: Global,
+        krate: &Label,
+        entry: &Label,
+        wanted: &[(Label, Bytes)],
+    ) -> Result<bool, Memory>
+        requires { AreOrdered self.now }
+        ensures { IfOk result (λ yes. IsTrue yes ↔ ((its : List (Text × Known)) × (self.now ≡ Stands krate.now entry.now its) × (complete its ≡ Some wanted.now))) }
     {
-        let here = self.stands_at(krate, entry);
-        let OwnDir { site, files } = self;
-        drop(site);
-        if here {
-            are_files(files, wanted)
-        } else {
-            drop(files);
-            false
+        match self.files_at(krate, entry) {
+            Some(files) => are_files(files, alloc, wanted),
+            None => Ok(false),
         }
     }
 }

@@ -18,6 +18,6 @@ returns c = λ steps index.
     let at = c.in_ok-at.at in
     let told = subst (λ t. Tells (IsStanding krate t) steps at) c.in_ok-lock.ensures (c.in_ok-at.ensures steps index) in
     let since = (index.holds h).held_at Alone in (
-      λ yes. held_says Stands steps at (alone h steps) hold.alone told since (c.is_alone_since.ensures.0 yes),
+      λ yes. held_says Stands steps at (alone h steps) hold.alone (λ after before split. (told after before split).1) since (c.is_alone_since.ensures.0 yes),
       λ w. c.is_alone_since.ensures.1 (says_held Stands steps at (alone h steps) hold.alone w.0 told since w.1 w.2),
     )

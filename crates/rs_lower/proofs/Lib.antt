@@ -1,0 +1,10 @@
+pub mod HeldLemmas
+pub mod CountLemmas
+pub mod Steps
+pub mod Values
+pub mod Blocks
+pub mod Caps
+pub mod Whole
+pub mod Sound
+pub mod Placed
+pub mod Formed

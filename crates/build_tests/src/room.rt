@@ -1,3 +1,5 @@
+ghost use Rattle.std.specs.Prelude.{◌≡◌, false};
+
 use inc_base::{Bytes, List, MemSink, MemSource, Memory, Meter};
 use inc_cli::run;
 use inc_dir::MemDir;
@@ -103,7 +105,9 @@ pub fn source(alloc: Global, text: &[u8], failing: &[u32]) -> Result<MemSource, 
 }
 
 /// An empty directory, which takes these chances and in which nobody else is at work.
-pub fn directory(alloc: Global, chances: List<Chance>) -> MemDir<Saved> {
+pub fn directory(alloc: Global, chances: List<Chance>) -> MemDir<Saved>
+    ensures { result.runs ≡ false }
+{
     MemDir::new(Ground::new(alloc, Saved), chances, List::new(alloc))
 }
 

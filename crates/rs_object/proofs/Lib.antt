@@ -1,1 +1,2 @@
 pub mod Relocations
+pub mod Fronts

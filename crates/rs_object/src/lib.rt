@@ -6,7 +6,13 @@
 #![tactic(auto)]
 
 mod grammar;
+mod laws;
 mod object;
+mod reading;
+mod writing;
 
 pub use grammar::is_in_grammar;
+pub use laws::objects_differ;
 pub use object::{Func, Object};
+pub use reading::decode_object;
+pub use writing::encode_object;

@@ -1,9 +1,12 @@
 -- A session that has its own lock finds its directory as its own steps say, so no step that it may make there is answered
 -- as if the directory weren't.
-use Rattle.std.specs.Prelude.{◌≡◌, ◌⊎◌, ℕ, List, ◌∷◌, refl, Option, Some, None, IsSome, is_some}
+use Rattle.std.specs.Prelude.{◌≡◌, ◌⊎◌, ℕ, List, [], ◌∷◌, cond, refl, Option, Some, None, IsSome, is_some}
 use Rattle.std.specs.Map.{lookup}
 use Rattle.std.specs.BTreeMap.{is_at}
 use Rattle.std.specs.Option.{option_and_then}
+use Rattle.std.specs.Ordering.{is_eq}
+use Rattle.std.specs.Cmp.{tied_itself}
+use Rattle.std.specs.Cmp.Lexicographic.{nat_list_cmp_total}
 use Rattle.std.proofs.Common.{ap, sym, subst, ◌∙◌, inl, inr, arith}
 use Rattle.std.proofs.lemmas.Option.{slice_get_cases}
 use Rattle.inc_base.specs.declared.job.Job.{Job}
@@ -11,9 +14,9 @@ use Rattle.inc_fs.specs.declared.state.Entry.{Entry}
 use Rattle.inc_fs.specs.declared.state.Entry.TheVariants.{LockFile, Folder}
 use Rattle.inc_fs.specs.Readings.{bytes_of}
 use Rattle.inc_fs.specs.State.{State, Text, text_cmp, entry_at, lock_of, folder_of, folder_at, number_at, numbered, file_at, named}
-use Rattle.inc_fs.specs.declared.op.Op.TheVariants.{MakeDir, Link, Read, Create, Append, Rename}
+use Rattle.inc_fs.specs.declared.op.Op.TheVariants.{MakeDir, Link, Read, Create, Append, RemoveDir, Rename}
 use Rattle.inc_fs.specs.declared.op.Reply.{Reply}
-use Rattle.inc_fs.specs.declared.op.Reply.TheVariants.{Exists, Missing}
+use Rattle.inc_fs.specs.declared.op.Reply.TheVariants.{Exists, Missing, NotEmpty}
 use Rattle.inc_names.specs.declared.session.SessionName.{SessionName}
 use Rattle.inc_names.specs.Entries.{working_text, final_text}
 use Rattle.inc_names.specs.EntryLaws.{lock_is_no_working, same_working_text, working_is_no_final}
@@ -33,6 +36,7 @@ use Rattle.inc_laws.specs.Readings.{running, Site, site_of, head_of, jobs_of, na
 use Rattle.inc_laws.specs.Readings.Maker.{ByCreate}
 use Rattle.inc_laws.specs.Readings.Site.{Nowhere, At, Out}
 use Rattle.inc_laws.proofs.Answered.{Made, made}
+use Rattle.inc_laws.proofs.InPlace.{some_same}
 use Rattle.inc_laws.proofs.Lasting.{may_parts, laws_hold, stands_published}
 use Rattle.inc_laws.proofs.Names.{name_is}
 use Rattle.inc_laws.proofs.Own.{Owners, out_name, one_at, one_out}
@@ -80,6 +84,24 @@ module _ (files : Files) (H : List Event) (F : State) (l : Laws files H F) (who 
       go : (o : Option ℕ) → named file own_folder.0 ≡ o → Fits file o (Some its) → IsSome (file_at F krate entry file)
       go None has fits = absurd fits
       go (Some f) has fits = let m = maker f its.linked fits.1 in at_number f m.0 has m.1
+
+-- where it has no file, the directory is there and empty
+first_named : (k : Text) (v : ℕ) (rest : List (Text × ℕ)) → named k ((k, v) ∷ rest) ≡ Some v
+first_named k v rest = ap (λ r. cond (is_eq r) (Some v) (lookup (is_at (text_cmp k)) rest)) (tied_itself nat_list_cmp_total k)
+
+module _ (files : Files) (H : List Event) (F : State) (l : Laws files H F) (who : ℕ) (runs : IsSome (running who H)) (h : ℕ) (locked : own (own_steps who H) ≡ Locked h)
+    (krate entry : Text) (d : dir (own_steps who H) ≡ Stands krate entry []) where
+  abbrev FitsNone : Text → Option ℕ → Type 0
+  FitsNone x found = FitsView files (jobs_of H) (sites_of H) (makers_of H) (bytes_of F) who x found None
+
+  no_names : (folder : List (Text × ℕ)) → folder_at F krate entry ≡ Some folder → ((x : Text) → FitsNone x (named x folder)) → folder_at F krate entry ≡ Some []
+  no_names [] is fits = is
+  no_names ((k, v) ∷ rest) is fits = let no : FitsNone k (Some v) = subst (FitsNone k) (first_named k v rest) (fits k) in absurd no
+
+  own_empty : folder_at F krate entry ≡ Some []
+  own_empty =
+      let its = own_folder files H F l who runs h locked krate entry [] d in
+      no_names its.0 its.1 its.2
 
 -- ---- The names under which it makes its directory, and publishes it, are its alone.
 
@@ -171,6 +193,17 @@ module _ (files : Files) (job : Job) where
       let m = made files job (Read krate entry file, Missing) steps c in
       none_some (file_at m.before krate entry file) m.step_is.0
       (own_has files m.events m.before (laws_hold files m.events m.before m.leads m.allowed) c.who (ap is_some m.runs) h (ap own m.own_is ∙ locked) krate entry known (ap dir m.own_is ∙ d) file its sees)
+
+  pub removed_there : (krate entry : Text) (h : ℕ) (steps : Steps) → own steps ≡ Locked h → HasDir steps krate entry [] → ¬ CanBe files job ((RemoveDir krate entry, Missing) ∷ steps)
+  removed_there krate entry h steps locked d c =
+      let m = made files job (RemoveDir krate entry, Missing) steps c in
+      own_stands files m.events m.before (laws_hold files m.events m.before m.leads m.allowed) c.who (ap is_some m.runs) h (ap own m.own_is ∙ locked) krate entry [] (ap dir m.own_is ∙ d) m.step_is.0
+
+  pub removed_empty : (krate entry : Text) (h : ℕ) (steps : Steps) → own steps ≡ Locked h → HasDir steps krate entry [] → ¬ CanBe files job ((RemoveDir krate entry, NotEmpty) ∷ steps)
+  removed_empty krate entry h steps locked d c =
+      let m = made files job (RemoveDir krate entry, NotEmpty) steps c in
+      let empty = own_empty files m.events m.before (laws_hold files m.events m.before m.leads m.allowed) c.who (ap is_some m.runs) h (ap own m.own_is ∙ locked) krate entry (ap dir m.own_is ∙ d) in
+      m.step_is.2 (some_same m.step_is.0 [] (sym m.step_is.1 ∙ empty))
 
   -- renaming its own directory publishes it
   abbrev Publishes : Text → Text → Text → List Event → ℕ → Type 0

@@ -1,6 +1,6 @@
 //! What a session may expect of a directory's replies in a legal history, each as the contract of a call that
 //! does nothing (docs/PROTOCOL.md, "What a session may expect").
-ghost use Rattle.std.specs.Prelude.{◌≡◌, ◌∷◌, ℕ, List, Option, None, Some, IsSome};
+ghost use Rattle.std.specs.Prelude.{◌≡◌, ◌∷◌, [], ℕ, List, Option, None, Some, IsSome};
 ghost use Rattle.std.specs.Map.{lookup};
 ghost use Rattle.std.specs.BTreeMap.{is_at};
 ghost use Rattle.inc_base.specs.declared.job.Job.{Job};
@@ -8,9 +8,9 @@ ghost use Rattle.inc_fs.specs.Kinds.{IsKindOf};
 ghost use Rattle.inc_fs.specs.State.{State, Text, IsIn, text_cmp, number_at};
 ghost use Rattle.inc_fs.specs.Step.{Step};
 ghost use Rattle.inc_fs.specs.declared.op.Op.{Op};
-ghost use Rattle.inc_fs.specs.declared.op.Op.TheVariants.{Draw, MakeLock, OpenLock, Look, ListDir, MakeDir, Link, Read, Create, Append, Unlink, Rename};
+ghost use Rattle.inc_fs.specs.declared.op.Op.TheVariants.{Draw, MakeLock, OpenLock, Look, ListDir, MakeDir, Link, Read, Create, Append, Unlink, RemoveDir, Rename};
 ghost use Rattle.inc_fs.specs.declared.op.Reply.{Reply};
-ghost use Rattle.inc_fs.specs.declared.op.Reply.TheVariants.{Drawn, Handle, Names, Exists, Missing};
+ghost use Rattle.inc_fs.specs.declared.op.Reply.TheVariants.{Drawn, Handle, Names, Exists, Missing, NotEmpty};
 ghost use Rattle.inc_names.specs.declared.entry.Entry.{Entry};
 ghost use Rattle.inc_names.specs.declared.session.SessionName.{SessionName};
 ghost use Rattle.inc_names.specs.Entries.{lock_text, final_text, IsSessionName};
@@ -66,8 +66,9 @@ pub fn listings_have_one_final()
 {}
 
 /// No step of a session's work on its own directory is answered as if something else were there, or nothing: with
-/// its own lock it makes the directory, links, creates, appends, reads what it has, and publishes, and none of this is
-/// answered `Exists` or `Missing` but a link, whose source may be gone.
+/// its own lock it makes the directory, links, creates, appends, reads what it has, removes the directory where it has
+/// no file, and publishes, and none of this is answered `Exists`, `Missing` or `NotEmpty` but a link, whose source may be
+/// gone.
 pub fn own_work_is_undisturbed()
     ensures directory { (files : Files) (job : Job) (krate entry : Text) (steps : Steps) → ¬ CanBe files job ((MakeDir krate entry, Exists) ∷ steps) }
     ensures link { (files : Files) (job : Job) (krate from to file : Text) (steps : Steps) → ¬ CanBe files job ((Link krate from to file, Exists) ∷ steps) }
@@ -76,6 +77,8 @@ pub fn own_work_is_undisturbed()
     ensures append { (files : Files) (job : Job) (krate entry file piece : Text) (steps : Steps) → ¬ CanBe files job ((Append krate entry file piece, Missing) ∷ steps) }
     ensures read { (files : Files) (job : Job) (krate entry file : Text) (known : List (Text × Known)) (its : Known) (h : ℕ) (steps : Steps) → own steps ≡ Locked h → HasDir steps krate entry known
         → lookup (is_at (text_cmp file)) known ≡ Some its → ¬ CanBe files job ((Read krate entry file, Missing) ∷ steps) }
+    ensures remove { (files : Files) (job : Job) (krate entry : Text) (h : ℕ) (steps : Steps) → own steps ≡ Locked h → HasDir steps krate entry [] → ¬ CanBe files job ((RemoveDir krate entry, Missing) ∷ steps) }
+    ensures remove_all { (files : Files) (job : Job) (krate entry : Text) (h : ℕ) (steps : Steps) → own steps ≡ Locked h → HasDir steps krate entry [] → ¬ CanBe files job ((RemoveDir krate entry, NotEmpty) ∷ steps) }
     ensures publish { (files : Files) (job : Job) (krate from to : Text) (known : List (Text × Known)) (steps : Steps) → HasDir steps krate from known → ¬ CanBe files job ((Rename krate from to, Exists) ∷ steps) }
     ensures publish_there { (files : Files) (job : Job) (krate from to : Text) (known : List (Text × Known)) (steps : Steps) → HasDir steps krate from known → ¬ CanBe files job ((Rename krate from to, Missing) ∷ steps) }
 {}

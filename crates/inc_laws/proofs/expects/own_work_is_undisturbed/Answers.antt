@@ -1,4 +1,4 @@
-use Rattle.inc_laws.proofs.Undisturbed.{dir_made, linked, created, created_there, appended, read_there, published, published_there}
+use Rattle.inc_laws.proofs.Undisturbed.{dir_made, linked, created, created_there, appended, read_there, removed_there, removed_empty, published, published_there}
 use Rattle.inc_laws.proofs.expects.own_work_is_undisturbed.Goals as goal
 
 pub returns-clause-directory : goal.returns-clause-directory
@@ -18,6 +18,12 @@ returns-clause-append c = appended
 
 pub returns-clause-read : goal.returns-clause-read
 returns-clause-read c = read_there
+
+pub returns-clause-remove : goal.returns-clause-remove
+returns-clause-remove c = removed_there
+
+pub returns-clause-remove_all : goal.returns-clause-remove_all
+returns-clause-remove_all c = removed_empty
 
 pub returns-clause-publish : goal.returns-clause-publish
 returns-clause-publish c = published

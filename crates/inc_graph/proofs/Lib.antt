@@ -1,0 +1,5 @@
+mod Ordered
+mod Tested
+mod Keeping
+mod Files
+mod GraphFronts

@@ -1,0 +1,4 @@
+pub mod Graphs
+pub mod Forms
+pub mod Order
+pub mod Kept

@@ -74,7 +74,7 @@ is_added may (c ∷ cs) found b (zero, l, e) m = by (is_new may found c) refl
 is_added may (c ∷ cs) found b (suc k, l, e) m = is_added may cs (cond (is_new may found c) (found ++ c ∷ []) found) b (k, omega (arith, l), e) m
 
 -- soundness: what is found is reached
-sound : (may : List Bool) (ask : ℕ → Option (List ℕ)) (roots : List ℕ) (n : ℕ) → All (Reached may ask roots) (walk may ask (start roots) n).found
+pub sound : (may : List Bool) (ask : ℕ → Option (List ℕ)) (roots : List ℕ) (n : ℕ) → All (Reached may ask roots) (walk may ask (start roots) n).found
 sound may ask roots = walked may ask (λ s. All (Reached may ask roots) s.found) (start roots) told_sound (λ k d l. (0, (k, l, in_default roots k d l)))
   where
     in_default : (xs : List ℕ) (k d : ℕ) → k < length xs → slice_index_or xs k (slice_index_or xs k d) ≡ slice_index_or xs k d
@@ -93,7 +93,7 @@ pub record IsClosed (may : List Bool) (ask : ℕ → Option (List ℕ)) (roots :
   pub roots_in : (b : ℕ) → Contains roots b → Contains s.found b
   pub calls_in : (k a b : ℕ) → k < s.asked → slice_get s.found k ≡ Some a → Calls may ask a b → Contains s.found b
 
-got_front : (xs ys : List ℕ) (k : ℕ) → k < length xs → slice_get (xs ++ ys) k ≡ slice_get xs k
+pub got_front : (xs ys : List ℕ) (k : ℕ) → k < length xs → slice_get (xs ++ ys) k ≡ slice_get xs k
 got_front [] ys k l = absurd (omega (arith, l))
 got_front (x ∷ xs) ys zero l = refl
 got_front (x ∷ xs) ys (suc k) l = got_front xs ys k (omega (arith, l))
@@ -131,7 +131,7 @@ closed may ask roots = walked may ask (IsClosed may ask roots) (start roots) tol
               ]);
         }
 
-none_past : (xs : List ℕ) (k : ℕ) → slice_get xs k ≡ None → length xs ≤ k
+pub none_past : (xs : List ℕ) (k : ℕ) → slice_get xs k ≡ None → length xs ≤ k
 none_past [] k e = omega arith
 none_past (x ∷ xs) zero e = absurd cc
 none_past (x ∷ xs) (suc k) e = omega (arith, none_past xs k e)

@@ -1,7 +1,7 @@
 pub mod Called
-mod Found
+pub mod Found
 mod Kept
-mod Numbered
+pub mod Numbered
 mod Numbers
 mod Onward
 pub mod Round

@@ -144,7 +144,12 @@ fn first_times(alloc: Global, may: &[bool], called: &[usize]) -> Result<Vec<usiz
     Ok(order)
 }
 
-fn places_at(alloc: Global, items: &[IndexItem], numbers: &[usize]) -> Result<List<Place>, Memory>
+/// The places of the items with these numbers; a number that no item has is passed over.
+pub fn places_at(
+    alloc: Global,
+    items: &[IndexItem],
+    numbers: &[usize],
+) -> Result<List<Place>, Memory>
     ensures { IfOk result (λ ps. ps ≡ places_at items.now numbers.now) }
 {
     let mut places = List::new(alloc);

@@ -50,7 +50,8 @@ fn push_if(to: &mut List<Place>, item: &IndexItem, passes: bool) -> Result<(), M
     to.push(place_of(item)?)
 }
 
-fn number_if(to: &mut Vec<usize>, i: usize, passes: bool) -> Result<(), Memory>
+/// Adds a number where its item passes.
+pub fn number_if(to: &mut Vec<usize>, i: usize, passes: bool) -> Result<(), Memory>
     ensures { OnOk result (to.new.items ≡ (if passes then to.old.items ++ i ∷ [] else to.old.items)) }
 {
     if !passes {
@@ -95,7 +96,8 @@ fn from_main<'a>(
     search(alloc, &places, calls, &may, roots)
 }
 
-pub(crate) fn place_of(item: &IndexItem) -> Result<Place, Memory>
+/// The place of an item.
+pub fn place_of(item: &IndexItem) -> Result<Place, Memory>
     ensures { IfOk result (λ p. p ≡ place_of item.now) }
 {
     Ok(Place {
@@ -104,7 +106,8 @@ pub(crate) fn place_of(item: &IndexItem) -> Result<Place, Memory>
     })
 }
 
-pub(crate) fn is_marked(marks: &[bool], at: usize) -> bool
+/// The mark at a place, and false past the last.
+pub fn is_marked(marks: &[bool], at: usize) -> bool
     ensures { result ≡ slice_index_or marks.now at false }
 {
     at < marks.len() && marks[at]

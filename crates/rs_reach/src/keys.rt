@@ -7,10 +7,8 @@ use rs_lookup::Places;
 use rs_tree::{IndexItem, Place};
 use std::alloc::Global;
 
-pub(crate) fn places_of_items<'a>(
-    alloc: Global,
-    items: &'a [IndexItem],
-) -> Result<Places<'a>, Memory>
+/// The places of items, ready for look-ups.
+pub fn places_of_items<'a>(alloc: Global, items: &'a [IndexItem]) -> Result<Places<'a>, Memory>
     ensures { IfOk result (λ p. p ≡ map item_name items.now) }
 {
     let mut keys = Vec::new(alloc);
@@ -20,7 +18,8 @@ pub(crate) fn places_of_items<'a>(
     Places::new(alloc, keys)
 }
 
-pub(crate) fn places_of_calls<'a>(
+/// The places whose calls are known, ready for look-ups.
+pub fn places_of_calls<'a>(
     alloc: Global,
     calls: &'a [(Place, List<Place>)],
 ) -> Result<Places<'a>, Memory>

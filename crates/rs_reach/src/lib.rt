@@ -13,10 +13,11 @@ mod keys;
 mod laws;
 mod marks;
 mod reached;
-mod search;
+pub mod search;
 
-pub use calls::{Callees, calls_of};
+pub use calls::{Callees, calls_of, places_at};
 pub use cycles::in_cycles;
-pub use dead::dead_items;
+pub use dead::{dead_items, is_marked, number_if, place_of};
+pub use keys::{places_of_calls, places_of_items};
 pub use laws::search_is_exact;
 pub use reached::reached_from;

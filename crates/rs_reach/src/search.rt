@@ -1,3 +1,5 @@
+//! The search by calls, and the parts of it that searches of other crates have in common.
+
 ghost use Rattle.std.specs.Prelude.{◌≡◌, ℕ, ◌+◌, List, Bool, length, map, IfOk, OnOk, slice_get, option_and_then};
 ghost use Rattle.std.specs.Option.{option_map};
 ghost use Rattle.rs_reach.specs.Search.{added, start, walk};
@@ -11,7 +13,7 @@ use std::alloc::Global;
 
 /// What a search found, in order, what of the rest may still be found, and how many were asked.
 #[derive(Drop)]
-pub(crate) struct Reached {
+pub struct Reached {
     pub found: Vec<usize>,
     pub left: Vec<bool>,
     pub asked: usize,
@@ -46,15 +48,15 @@ pub(crate) fn search<'a>(
     Ok(Reached { found, left, asked })
 }
 
-// The next to ask.
-pub(crate) fn next(found: &[usize], asked: usize) -> Option<usize>
+/// The next to ask, or None where all were asked.
+pub fn next(found: &[usize], asked: usize) -> Option<usize>
     ensures { result ≡ slice_get found.now asked }
 {
     found.get(asked).copied()
 }
 
-// The numbers of the functions that an item calls, where that is known.
-fn calls_of<'a>(
+/// The numbers of the functions that an item calls, where that is known.
+pub fn calls_of<'a>(
     alloc: Global,
     places: &Places<'a>,
     known: &Places<'a>,
@@ -98,8 +100,8 @@ pub(crate) fn numbers_of<'a>(
     Ok(numbers)
 }
 
-// What may be found and isn't a root.
-pub(crate) fn left_of(alloc: Global, may: &[bool], roots: &[usize]) -> Result<Vec<bool>, Memory>
+/// What may be found and isn't a root.
+pub fn left_of(alloc: Global, may: &[bool], roots: &[usize]) -> Result<Vec<bool>, Memory>
     ensures { IfOk result (λ left. IsLeft may.now left.items roots.now) }
 {
     let mut left = Vec::from_slice(alloc, may)?;
@@ -111,12 +113,8 @@ pub(crate) fn left_of(alloc: Global, may: &[bool], roots: &[usize]) -> Result<Ve
     Ok(left)
 }
 
-// Adds what is called and may be found.
-pub(crate) fn tell(
-    left: &mut Vec<bool>,
-    found: &mut Vec<usize>,
-    called: &[usize],
-) -> Result<(), Memory>
+/// Adds what is called, may be found and isn't yet. `Memory` may leave some of it added.
+pub fn tell(left: &mut Vec<bool>, found: &mut Vec<usize>, called: &[usize]) -> Result<(), Memory>
     ensures { OnOk result ((may : List Bool) → IsLeft may left.old.items found.old.items → (found.new.items ≡ added may found.old.items called.now) × IsLeft may left.new.items found.new.items) }
 {
     for call in called {

@@ -1,13 +1,13 @@
 -- The modules that have a function of their own.
 use Rattle.std.proofs.Common.{◌≡◌, ℕ, ◌+◌, ◌<◌, ◌==◌, ◌&&◌, ◌||◌, Bool, true, false, cond, List, [], ◌∷◌, ◌++◌, length, get_or, take, drop, Some, refl, sym, ap, ◌∙◌, Bor, nat_cmp}
 use Rattle.std.specs.Prelude.{filter, is_some, Option}
-use Rattle.std.specs.List.{list_any}
 use Rattle.std.specs.Cmp.Lexicographic.{slice_cmp}
 use Rattle.std.specs.Str.{bytes_eq}
 use Rattle.std.specs.BTreeMap.{BTreeMap, get_by, UpdatesBy}
 use Rattle.std.proofs.lemmas.Map.Text.{btree_map_updates_str}
 use Rattle.std.proofs.lemmas.Cmp.{nat_list_eq_equiv}
 use Rattle.std.proofs.lemmas.List.{at_drop_more, take_more}
+use Rattle.std.proofs.lemmas.List.Elements.{filter-append}
 use Rattle.rs_tree.specs.declared.index.IndexItem.{IndexItem}
 use Rattle.rs_units.specs.Units.{is_own, has_own}
 
@@ -28,14 +28,6 @@ noted v m n item bs kind is up q =
 -- the items from one on
 pub own_more : (q : List ℕ) (items : List IndexItem) (k : ℕ) (d : IndexItem) → k < length items → has_own (drop k items) q ≡ (is_own q (get_or items k d) || has_own (drop (k + 1) items) q)
 own_more q items k d less = at_drop_more (λ xs. has_own xs q) items k d less
-
-filter-append : {X : Type 0} (p : X → Bool) (xs ys : List X) → filter p (xs ++ ys) ≡ filter p xs ++ filter p ys
-filter-append p [] ys = refl
-filter-append p (x ∷ xs) ys = by (p x) (filter-append p xs ys)
-  where
-    by : (b : Bool) → filter p (xs ++ ys) ≡ filter p xs ++ filter p ys → cond b (x ∷ filter p (xs ++ ys)) (filter p (xs ++ ys)) ≡ cond b (x ∷ filter p xs) (filter p xs) ++ filter p ys
-    by true more = ap (λ zs. x ∷ zs) more
-    by false more = more
 
 -- the modules up to one
 pub units_more : (p : List ℕ → Bool) (ms : List (List ℕ)) (k : ℕ) (m : List ℕ) → k < length ms → m ≡ get_or ms k m → filter p ([] ∷ take (k + 1) ms) ≡ filter p ([] ∷ take k ms) ++ filter p (m ∷ [])

@@ -1,1 +1,4 @@
+pub mod Laws
+pub mod Members
+pub mod Ready
 pub mod Units

@@ -9,8 +9,8 @@ use rs_tree::{Index, IndexItem};
 use std::alloc::Global;
 use std::collections::BTreeMap;
 
-/// The kind of a function that isn't copied into the units that call it.
-const OWN: u8 = 1;
+// The kind of a function that isn't copied into the units that call it.
+pub(crate) const OWN: u8 = 1;
 
 /// The units of a program, each by its module: the root, which is the empty text, where it has a function of
 /// kind 1, and each module that has one, in index order. `Memory` where there is none for them

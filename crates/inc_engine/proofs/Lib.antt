@@ -1,0 +1,11 @@
+pub mod Lists
+pub mod Stale
+pub mod Steps
+pub mod Marks
+pub mod Apart
+pub mod Searches
+pub mod Indexes
+pub mod Works
+pub mod Caches
+pub mod Finishes
+pub mod Builds

@@ -1,0 +1,5 @@
+pub mod Builds
+pub mod Index
+pub mod Marking
+pub mod Finish
+pub mod BuildLaws

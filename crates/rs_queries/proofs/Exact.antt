@@ -6,48 +6,48 @@ use Rattle.rs_reach.specs.Laws.{Ends, FindsOnce, FindsReached}
 use Rattle.rs_lines.specs.Lines.{printed, printed_all}
 use Rattle.rs_lines.specs.declared.line.Line.{Line}
 use Rattle.rs_text.specs.Laws.{TextIs}
-use Rattle.rs_text.specs.Text.{IsTextAs, IsTextRefusal, text_of}
+use Rattle.rs_text.specs.Text.{IsTextAs, text_of}
 use Rattle.rs_text.specs.declared.fault.TextFault.{TextFault}
 use Rattle.rs_text.specs.declared.fault.TextFault.TheVariants as text
-use Rattle.rs_queries.specs.Diagnosed.{IsDiagnosis, SaysFault, SaysTree, fault_line, tree_lines}
+use Rattle.rs_queries.specs.Diagnosed.{IsDiagnosis, OfText, SaysFault, SaysTree, fault_line, tree_lines}
 use Rattle.rs_queries.specs.Known.{constants_of}
 use Rattle.rs_queries.proofs.Values.{one, there}
 
--- what the text of a fault says, and that of a tree
-pub of_fault : (bytes out : List ℕ) (f : TextFault) → text_of bytes ≡ Err f → SaysFault f out → IsDiagnosis bytes out
-of_fault bytes out f is says = record {
-  fault = λ g e. (let both : Err f ≡ Err g = sym is ∙ e in let same : f ≡ g = cc in subst (λ (h : TextFault). SaysFault h out) same says);
-  tree = λ krate e. absurd (let bad : Err f ≡ Ok krate = sym is ∙ e in cc);
-}
+-- ---- What is so of a text.
 
-pub of_tree : (bytes out : List ℕ) (krate : Crate) → text_of bytes ≡ Ok krate → SaysTree krate out → IsDiagnosis bytes out
-of_tree bytes out krate is says = record {
-  fault = λ g e. absurd (let bad : Ok krate ≡ Err g = sym is ∙ e in cc);
-  tree = λ other e. (let both : Ok krate ≡ Ok other = sym is ∙ e in let same : krate ≡ other = cc in subst (λ (t : Crate). SaysTree t out) same says);
-}
+module _ (bytes : List ℕ) (F : TextFault → Type 0) (T : Crate → Type 0) where
+  pub of_fault : (f : TextFault) → text_of bytes ≡ Err f → F f → OfText bytes F T
+  of_fault f is h = record {
+    fault = λ g e. (let both : Err f ≡ Err g = sym is ∙ e in let same : f ≡ g = cc in subst F same h);
+    tree = λ krate e. absurd (let bad : Err f ≡ Ok krate = sym is ∙ e in cc);
+  }
 
--- a fault that has a line is that of the text
-pub refused : (bytes out : List ℕ) (f : TextFault) → IsTextRefusal bytes f → SaysFault f out → IsDiagnosis bytes out
-refused bytes out (text.Byte at) is says = of_fault bytes out (text.Byte at) is says
-refused bytes out (text.Nesting at) is says = of_fault bytes out (text.Nesting at) is says
-refused bytes out (text.Syntax at) is says = of_fault bytes out (text.Syntax at) is says
-refused bytes out (text.Twice at name) is says = of_fault bytes out (text.Twice at name) is says
-refused bytes out text.Memory is says = absurd (let bad : None ≡ Some says.line = says.is in cc)
+  pub of_tree : (krate : Crate) → text_of bytes ≡ Ok krate → T krate → OfText bytes F T
+  of_tree krate is h = record {
+    fault = λ g e. absurd (let bad : Ok krate ≡ Err g = sym is ∙ e in cc);
+    tree = λ other e. (let both : Ok krate ≡ Ok other = sym is ∙ e in let same : krate ≡ other = cc in subst T same h);
+  }
 
-pub only : (bytes a b : List ℕ) → IsDiagnosis bytes a → IsDiagnosis bytes b → a ≡ b
-only bytes a b p q = by (text_of bytes) refl
-  where
-    by : (r : Result Crate TextFault) → text_of bytes ≡ r → a ≡ b
-    by (Err f) e =
-        (let x = p.fault f e in
-        let y = q.fault f e in
-        let both : Some x.line ≡ Some y.line = sym x.is ∙ y.is in
-        let same : x.line ≡ y.line = cc in
-        x.says ∙ ap printed same ∙ sym y.says)
-    by (Ok krate) e =
-        (let x = p.tree krate e in
-        let y = q.tree krate e in
-        x.says ∙ ap (λ vs. printed_all (tree_lines krate vs)) (one (constants_of krate) x.values y.values x.are y.are) ∙ sym y.says)
+module _ {A : Type 0} (bytes : List ℕ) (F : TextFault → A → Type 0) (T : Crate → A → Type 0) where
+  -- of one answer alone, where that is so of each fault and each tree
+  pub same_answer : ((f : TextFault) (a b : A) → F f a → F f b → a ≡ b) → ((krate : Crate) (a b : A) → T krate a → T krate b → a ≡ b)
+      → (a b : A) → OfText bytes (λ f. F f a) (λ krate. T krate a) → OfText bytes (λ f. F f b) (λ krate. T krate b) → a ≡ b
+  same_answer faults trees a b p q = by (text_of bytes) refl
+    where
+      by : (r : Result Crate TextFault) → text_of bytes ≡ r → a ≡ b
+      by (Err f) e = faults f a b (p.fault f e) (q.fault f e)
+      by (Ok krate) e = trees krate a b (p.tree krate e) (q.tree krate e)
+
+  -- of some answer
+  pub some_answer : IsTextAs bytes (text_of bytes) → ((f : TextFault) → IsTextAs bytes (Err f) → (a : A) × F f a) → ((krate : Crate) → (a : A) × T krate a)
+      → (a : A) × OfText bytes (λ f. F f a) (λ krate. T krate a)
+  some_answer is faults trees = by (text_of bytes) refl
+    where
+      by : (r : Result Crate TextFault) → text_of bytes ≡ r → (a : A) × OfText bytes (λ f. F f a) (λ krate. T krate a)
+      by (Err f) e = (let x = faults f (subst (IsTextAs bytes) e is) in (x.0, of_fault bytes (λ g. F g x.0) (λ krate. T krate x.0) f e x.1))
+      by (Ok krate) e = (let x = trees krate in (x.0, of_tree bytes (λ g. F g x.0) (λ other. T other x.0) krate e x.1))
+
+-- ---- Diagnostics.
 
 line_there : (bytes : List ℕ) (f : TextFault) → IsTextAs bytes (Err f) → (l : Line) × (fault_line f ≡ Some l)
 line_there bytes (text.Byte at) h = (_, refl)
@@ -56,13 +56,23 @@ line_there bytes (text.Syntax at) h = (_, refl)
 line_there bytes (text.Twice at name) h = (_, refl)
 line_there bytes text.Memory h = absurd h
 
+fault_said : (bytes : List ℕ) (f : TextFault) → IsTextAs bytes (Err f) → (out : List ℕ) × SaysFault f out
+fault_said bytes f is = (let l = line_there bytes f is in (printed l.0, record { line = l.0; is = l.1; says = refl }))
+
+same_fault : (f : TextFault) (a b : List ℕ) → SaysFault f a → SaysFault f b → a ≡ b
+same_fault f a b x y =
+    let both : Some x.line ≡ Some y.line = sym x.is ∙ y.is in
+    let same : x.line ≡ y.line = cc in
+    x.says ∙ ap printed same ∙ sym y.says
+
+same_tree : (krate : Crate) (a b : List ℕ) → SaysTree krate a → SaysTree krate b → a ≡ b
+same_tree krate a b x y = x.says ∙ ap (λ vs. printed_all (tree_lines krate vs)) (one (constants_of krate) x.values y.values x.are y.are) ∙ sym y.says
+
+pub only : (bytes a b : List ℕ) → IsDiagnosis bytes a → IsDiagnosis bytes b → a ≡ b
+only bytes a b p q = same_answer bytes SaysFault SaysTree same_fault same_tree a b p q
+
 pub is : TextIs → Ends → FindsReached → FindsOnce → (bytes : List ℕ) → (out : List ℕ) × IsDiagnosis bytes out
-is texts ends reached once bytes = by (text_of bytes) refl
+is texts ends reached once bytes = some_answer bytes SaysFault SaysTree (texts.is bytes) (fault_said bytes) said
   where
-    by : (r : Result Crate TextFault) → text_of bytes ≡ r → (out : List ℕ) × IsDiagnosis bytes out
-    by (Err f) e =
-        (let l = line_there bytes f (subst (IsTextAs bytes) e (texts.is bytes)) in
-        (printed l.0, of_fault bytes (printed l.0) f e (record { line = l.0; is = l.1; says = refl })))
-    by (Ok krate) e =
-        (let vs = there ends reached once (constants_of krate) in
-        (printed_all (tree_lines krate vs.0), of_tree bytes _ krate e (record { values = vs.0; are = vs.1; says = refl })))
+    said : (krate : Crate) → (out : List ℕ) × SaysTree krate out
+    said krate = (let vs = there ends reached once (constants_of krate) in (printed_all (tree_lines krate vs.0), record { values = vs.0; are = vs.1; says = refl }))

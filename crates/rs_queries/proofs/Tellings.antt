@@ -1,5 +1,5 @@
 -- Lines that are told of one after the other.
-use Rattle.std.proofs.Common.{◌≡◌, ℕ, ◌+◌, ◌<◌, true, false, List, [], ◌∷◌, ◌++◌, length, get_or, take, sym, ap, ◌∙◌, append-nil, if◌then◌else◌}
+use Rattle.std.proofs.Common.{◌≡◌, ℕ, ◌+◌, ◌<◌, Bool, true, false, List, [], ◌∷◌, ◌++◌, length, get_or, take, sym, ap, ◌∙◌, append-nil, if◌then◌else◌}
 use Rattle.std.specs.Prelude.{fold}
 use Rattle.std.specs.List.{flat_map}
 use Rattle.std.proofs.lemmas.Grind.{fold-append, flat_map-append}
@@ -25,13 +25,17 @@ tells_more f xs i x t now new l is was tells =
 pub both_told : (ls more : List Line) (now mid new : Told) → now ≡ told [] → mid ≡ fold note now ls → new ≡ fold note mid more → new ≡ told (ls ++ more)
 both_told ls more now mid new none first later = later ∙ ap (λ s. fold note s more) (first ∙ ap (λ s. fold note s ls) none) ∙ sym (told_more ls more)
 
+-- whether there is an error
+pub errors_of : (ls : List Line) (t : Told) (b : Bool) → t ≡ told ls → t.errors ≡ b → b ≡ has_error ls
+errors_of ls t b is e = sym e ∙ ap (λ (s : Told). s.errors) is ∙ told_errors ls
+
 -- where there is an error, of no more
 pub with_error : (ls more : List Line) (t : Told) → t ≡ told ls → t.errors ≡ true → t.lines ≡ in_order (ls ++ (if has_error ls then [] else more))
 with_error ls more t is e =
-    let has : true ≡ has_error ls = sym e ∙ ap (λ s. s.errors) is ∙ told_errors ls in
+    let has = errors_of ls t true is e in
     ap (λ s. s.lines) is ∙ told_lines ls ∙ ap in_order (sym (append-nil ls)) ∙ ap (λ b. in_order (ls ++ (if b then [] else more))) has
 
 pub without_error : (ls more : List Line) (t new : Told) → t ≡ told ls → t.errors ≡ false → new ≡ fold note t more → new.lines ≡ in_order (ls ++ (if has_error ls then [] else more))
 without_error ls more t new is e later =
-    let has : false ≡ has_error ls = sym e ∙ ap (λ s. s.errors) is ∙ told_errors ls in
+    let has = errors_of ls t false is e in
     ap (λ s. s.lines) (later ∙ ap (λ s. fold note s more) is ∙ sym (told_more ls more)) ∙ told_lines (ls ++ more) ∙ ap (λ b. in_order (ls ++ (if b then [] else more))) has

@@ -101,7 +101,11 @@ pub record SaysFault (fault : TextFault) (out : List ℕ) : Type 0 where
   pub is : fault_line fault ≡ Some line
   pub says : out ≡ printed line
 
+-- What is so of a text: this of its fault, where it has one, and that of its tree.
+pub record OfText (bytes : List ℕ) (F : TextFault → Type 0) (T : Crate → Type 0) : Type 0 where
+  pub fault : (f : TextFault) → text_of bytes ≡ Err f → F f
+  pub tree : (krate : Crate) → text_of bytes ≡ Ok krate → T krate
+
 -- The diagnostics of a text: the line of its fault, or the lines of its tree.
-pub record IsDiagnosis (bytes out : List ℕ) : Type 0 where
-  pub fault : (f : TextFault) → text_of bytes ≡ Err f → SaysFault f out
-  pub tree : (krate : Crate) → text_of bytes ≡ Ok krate → SaysTree krate out
+abbrev pub IsDiagnosis : List ℕ → List ℕ → Type 0
+IsDiagnosis bytes out = OfText bytes (λ f. SaysFault f out) (λ krate. SaysTree krate out)

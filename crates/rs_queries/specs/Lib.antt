@@ -1,3 +1,4 @@
 pub mod Diagnosed
 pub mod Known
+pub mod Limits
 pub mod State

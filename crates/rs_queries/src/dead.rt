@@ -1,11 +1,12 @@
-//! Lines of functions that are never used.
+//! What items call, and lines of functions that are never used.
 
 ghost use Rattle.std.specs.Prelude.{◌≡◌, map, fold, IfOk, OnOk};
 ghost use Rattle.std.specs.List.{flat_map};
 ghost use Rattle.rs_lookup.specs.Keys.{plain};
 ghost use Rattle.rs_lookup.specs.Places.{place_name};
 ghost use Rattle.rs_lines.specs.Lines.{note};
-ghost use Rattle.rs_queries.specs.Diagnosed.{calls_of, dead_line, dead_lines, is_among};
+ghost use Rattle.rs_reach.specs.Dead.{dead_of};
+ghost use Rattle.rs_queries.specs.Diagnosed.{calls_of, dead_line, is_among};
 
 use crate::answered::Answered;
 use inc_base::{List, Memory};
@@ -16,22 +17,22 @@ use rs_reach::{Callees, dead_items};
 use rs_tree::{Index, Place};
 use std::alloc::Global;
 
-/// Tells of the functions that no calls lead to from the root's `main`.
+/// Tells of the functions that none of these calls lead to from the root's `main`.
 pub(crate) fn tell_dead<'a>(
     alloc: Global,
     lines: &mut Lines,
     index: &'a Index,
     answered: &'a [Answered<'_>],
+    calls: &'a List<(Place, List<Place>)>,
 ) -> Result<(), Memory>
-    ensures { OnOk result (lines.new ≡ fold note lines.old (dead_lines index.now.items answered.now)) }
+    ensures { OnOk result (lines.new ≡ fold note lines.old (flat_map (dead_line (map place_name (dead_of index.now.items calls.now))) answered.now)) }
 {
-    let calls = calls_of_all(alloc, index, answered)?;
-    let dead = dead_items(&*index, &calls)?;
+    let dead = dead_items(index, calls)?;
     tell_these(alloc, lines, &*answered, dead.as_slice())
 }
 
-// What each item calls.
-fn calls_of_all<'a>(
+/// What each item calls.
+pub(crate) fn calls_of_all<'a>(
     alloc: Global,
     index: &'a Index,
     answered: &'a [Answered<'_>],

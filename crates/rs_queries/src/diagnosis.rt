@@ -1,14 +1,11 @@
 ghost use Rattle.std.specs.Prelude.{◌≡◌, IfOk};
-ghost use Rattle.rs_lines.specs.Lines.{has_error, in_order};
-ghost use Rattle.rs_queries.specs.Diagnosed.{IsDiagnosis, SaysTree, all_lines};
+ghost use Rattle.rs_queries.specs.Diagnosed.{IsDiagnosis, SaysTree};
 ghost use Rattle.rs_queries.specs.State.{SaysItems};
 
-use crate::dead::tell_dead;
+use crate::checked::check_tree;
 use crate::fault::fault_text;
-use crate::known::{Known, known_of};
-use crate::own::own_lines;
+use crate::known::known_of;
 use inc_base::{Bytes, Memory};
-use rs_lines::Lines;
 use rs_names::index;
 use rs_text::read_text;
 use rs_tree::{Crate, Index, Placed};
@@ -39,18 +36,6 @@ fn indexed_text<'a>(alloc: Global, placed: &'a [Placed], index: &'a Index) -> Re
     ensures { IfOk result (SaysItems index.now.items placed.now) }
 {
     let known = known_of(alloc, placed, index)?;
-    let lines = lines_of(alloc, &*index, &known)?;
-    lines.print(alloc)
-}
-
-// The lines of a tree of which this is known.
-fn lines_of<'a>(alloc: Global, index: &'a Index, known: &'a Known<'_>) -> Result<Lines, Memory>
-    ensures { IfOk result (λ ls. ls.lines ≡ in_order (all_lines index.now.items known.now.sigs known.now.constants known.now.values.items known.now.answered.items)) }
-{
-    let mut lines = own_lines(alloc, index, known)?;
-    if lines.has_error() {
-        return Ok(lines);
-    }
-    tell_dead(alloc, &mut lines, index, &known.answered)?;
-    Ok(lines)
+    let checked = check_tree(alloc, &*index, &known)?;
+    checked.lines.print(alloc)
 }

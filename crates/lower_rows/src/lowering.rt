@@ -9,10 +9,10 @@ use rs_text::read_text;
 use rs_tree::{Body, Const, Crate, Found, Index, Item, Place, Placed, Sig, Typ};
 use std::alloc::Global;
 
-/// The forms of the functions of a text, in its order, or `fault` where the text has no tree.
-pub fn lowered(alloc: Global, text: &[u8]) -> Result<Bytes, Memory> {
+/// The forms of the functions of a text at a level, in its order, or `fault` where the text has no tree.
+pub fn lowered(alloc: Global, text: &[u8], level: u8) -> Result<Bytes, Memory> {
     match read_text(alloc, text) {
-        Ok(tree) => forms_of(alloc, &tree),
+        Ok(tree) => forms_of(alloc, &tree, level),
         Err(fault) => {
             drop(fault);
             Bytes::of(alloc, b"fault\n")
@@ -20,14 +20,14 @@ pub fn lowered(alloc: Global, text: &[u8]) -> Result<Bytes, Memory> {
     }
 }
 
-fn forms_of(alloc: Global, tree: &Crate) -> Result<Bytes, Memory> {
+fn forms_of(alloc: Global, tree: &Crate, level: u8) -> Result<Bytes, Memory> {
     let index = index(tree)?;
     let known = known_of(alloc, tree, &index)?;
     let sigs = sigs_of(alloc, &known, &index)?;
     let consts = consts_of(alloc, &known)?;
     let mut to = Bytes::new(alloc);
     for (place, item, found) in known.as_slice() {
-        put_function(&mut to, place, item, found, &sigs, &consts)?;
+        put_function(&mut to, place, item, found, &sigs, &consts, level)?;
     }
     Ok(to)
 }
@@ -39,11 +39,12 @@ fn put_function(
     found: &List<Found>,
     sigs: &List<(Place, Sig)>,
     consts: &List<(Place, Const)>,
+    level: u8,
 ) -> Result<(), Memory> {
     match &item.body {
         Body::Const { .. } => Ok(()),
         Body::Func { .. } => {
-            let form = lower(item, found, sigs, consts)?;
+            let form = lower(item, found, sigs, consts, level)?;
             put_form(to, place, &form)
         }
     }

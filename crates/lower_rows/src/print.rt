@@ -1,8 +1,12 @@
-//! How a form is printed: one line for its head and one for each instruction, codes in hexadecimal.
+//! How a form is printed: one line for its head and one for each instruction, codes in hexadecimal; of more than a thousand instructions
+//! only their number.
 
 use inc_base::{Bytes, Memory};
 use itoa::Buffer;
 use rs_tree::{Instr, Ir, Place};
+
+/// The most instructions that are printed.
+const MOST: usize = 1_000;
 
 /// The name, 1 or 0 for `#[inline]`, the parameters and the slots; then the instructions.
 pub fn put_form(to: &mut Bytes, place: &Place, form: &Ir) -> Result<(), Memory> {
@@ -11,11 +15,20 @@ pub fn put_form(to: &mut Bytes, place: &Place, form: &Ir) -> Result<(), Memory> 
     put_count(to, form.params)?;
     put_count(to, form.slots)?;
     to.append(b"\n")?;
+    if form.code.len() > MOST {
+        return put_many(to, form.code.len());
+    }
     for instr in form.code.as_slice() {
         put_instr(to, instr)?;
         to.append(b"\n")?;
     }
     Ok(())
+}
+
+fn put_many(to: &mut Bytes, count: usize) -> Result<(), Memory> {
+    let mut number = Buffer::new();
+    to.append(number.format(count).as_bytes())?;
+    to.append(b" instructions\n")
 }
 
 fn put_instr(to: &mut Bytes, instr: &Instr) -> Result<(), Memory> {

@@ -21,8 +21,9 @@ use Rattle.rs_lower.specs.Code.{body_all, after_all, returned}
 use Rattle.rs_lower.specs.Counts.{places_all, lets_all, labels_in}
 use Rattle.rs_lower.specs.Laws.{IsForm, HasSlot}
 use Rattle.rs_lower.specs.Locals.{with_params}
-use Rattle.rs_lower.specs.Lowered.{function_code, is_within, lowered, lowered_definition, no_code}
-use Rattle.rs_lower.specs.Meanings.{Leaf, Meanings, is_value_type}
+use Rattle.rs_lower.specs.Lowered.{function_code, is_within, lowered, lowered_definition, meanings, no_code}
+use Rattle.rs_lower.specs.Reduced.{stas_reduced, reduced_in}
+use Rattle.rs_lower.specs.Meanings.{Leaf, Meanings}
 use Rattle.rs_lower.proofs.Placed.{within_all, within_sum, count-append, block_placed, returned_placed}
 use Rattle.rs_lower.proofs.Sound.{IsSound, Below, each_append, each_weaker, return_plain, body_all_sound, returned_sound, after_all_below, params_below, own_code, own_slot}
 
@@ -68,11 +69,11 @@ either_form : (b : Bool) (x y : Ir) → IsForm x → IsForm y → IsForm (if b t
 either_form true x y first second = first
 either_form false x y first second = second
 
-definition_form : (found : List Found) (sigs : List (Place × Sig)) (consts : List (Place × Const)) (d : Definition path.Path) → IsForm (lowered_definition found sigs consts d)
-definition_form found sigs consts (constant typ value) = no_code_form false
-definition_form found sigs consts (Func inlined ps gives stmts tail) =
-    let w : Meanings = record { sigs = sigs; consts = consts; gives = is_value_type gives } in
-    either_form (is_within ps stmts tail) _ _ (function_form w inlined ps (stas_filled Absent found stmts) (filled_in Absent (drop (length (stas_leaves stmts)) found) tail)) (no_code_form inlined)
+definition_form : (level : ℕ) (found : List Found) (sigs : List (Place × Sig)) (consts : List (Place × Const)) (d : Definition path.Path) → IsForm (lowered_definition level found sigs consts d)
+definition_form level found sigs consts (constant typ value) = no_code_form false
+definition_form level found sigs consts (Func inlined ps gives stmts tail) =
+    let w : Meanings = meanings level sigs consts gives in
+    either_form (is_within ps stmts tail) _ _ (function_form w inlined ps (stas_reduced w (stas_filled Absent found stmts)) (reduced_in w (filled_in Absent (drop (length (stas_leaves stmts)) found) tail))) (no_code_form inlined)
 
-pub lowered_form : (found : List Found) (sigs : List (Place × Sig)) (consts : List (Place × Const)) (item : Item) → IsForm (lowered found sigs consts item)
-lowered_form found sigs consts item = definition_form found sigs consts (definition item.body)
+pub lowered_form : (level : ℕ) (found : List Found) (sigs : List (Place × Sig)) (consts : List (Place × Const)) (item : Item) → IsForm (lowered level found sigs consts item)
+lowered_form level found sigs consts item = definition_form level found sigs consts (definition item.body)

@@ -1,5 +1,7 @@
 pub mod HeldLemmas
 pub mod CountLemmas
+pub mod Reducing
+pub mod Outcomes
 pub mod Steps
 pub mod Values
 pub mod Blocks

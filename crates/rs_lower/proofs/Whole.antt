@@ -12,9 +12,10 @@ use Rattle.rs_tree.specs.Leaves.{filled_in, stas_filled, stas_leaves}
 use Rattle.rs_tree.specs.Plain.{Exp, Stas}
 use Rattle.rs_lower.specs.Code.{body_all, after_all, returned}
 use Rattle.rs_lower.specs.Counts.{places_all, lets_all}
-use Rattle.rs_lower.specs.Lowered.{function_code}
+use Rattle.rs_lower.specs.Lowered.{reduced_code}
+use Rattle.rs_lower.specs.Reduced.{stas_reduced, reduced_in}
 use Rattle.rs_lower.specs.State.{declared_params, with_return, with_stas}
-use Rattle.rs_lower.proofs.CountLemmas.{places_all_filled, lets_all_filled}
+use Rattle.rs_lower.proofs.Reducing.{same_lets_all}
 
 pub declared_none : (s : Lowerer) → declared_params [] s ≡ s
 declared_none s = simp add-zero
@@ -35,21 +36,23 @@ params_at ps i p s less is =
 pub whole : (inlined : Bool) (ps : List Param) (ts : Stas path.Path) (tail : Option (Exp path.Path)) (bs : List Found) (s one two three : Lowerer)
     → s.code ≡ [] → s.labels ≡ 0 → s.slots ≡ 0 → s.locals ≡ [] → s.answers ≡ bs
     → one ≡ declared_params ps s → two ≡ with_stas ts one → three ≡ with_return tail two
-    → record { inline = inlined; params = length ps; slots = three.slots; code = three.code } ≡ function_code s.meanings.now inlined ps (stas_filled Absent bs ts) (filled_in Absent (drop (length (stas_leaves ts)) bs) tail)
+    → record { inline = inlined; params = length ps; slots = three.slots; code = three.code } ≡ reduced_code s.meanings.now inlined ps (stas_filled Absent bs ts) (filled_in Absent (drop (length (stas_leaves ts)) bs) tail)
 whole inlined ps ts tail bs s one two three no_code no_labels no_slots no_locals all_left begun worked ended =
     let w = s.meanings.now in
     let env = with_params 0 ps [] in
+    let first = stas_reduced w (stas_filled Absent bs ts) in
+    let last = reduced_in w (filled_in Absent (drop (length (stas_leaves ts)) bs) tail) in
     let made : three ≡ with_return tail (with_stas ts (declared_params ps s)) = ended ∙ ap (with_return tail) (worked ∙ ap (with_stas ts) begun) in
-    let n : 0 + places_all ts ≡ places_all (stas_filled Absent bs ts) = omega (arith, places_all_filled Absent bs ts) in
+    let n : 0 + places_all first ≡ places_all first = omega arith in
     let m : 0 + length ps ≡ length ps = omega arith in
-    let code : three.code ≡ body_all w env (length ps) 0 (stas_filled Absent bs ts) ++ returned w (after_all w env (length ps) (stas_filled Absent bs ts)) (places_all (stas_filled Absent bs ts)) (filled_in Absent (drop (length (stas_leaves ts)) bs) tail) =
+    let code : three.code ≡ body_all w env (length ps) 0 first ++ returned w (after_all w env (length ps) first) (places_all first) last =
     ap (λ (x : Lowerer). x.code) made
-    ∙ (λ j. (no_code j ++ body_all w (with_params (no_slots j) ps (no_locals j)) (no_slots j + length ps) (no_labels j) (stas_filled Absent (all_left j) ts))
-    ++ returned w (after_all w (with_params (no_slots j) ps (no_locals j)) (no_slots j + length ps) (stas_filled Absent (all_left j) ts)) (no_labels j + places_all ts) (filled_in Absent (drop (length (stas_leaves ts)) (all_left j)) tail))
-    ∙ (λ j. body_all w env (m j) 0 (stas_filled Absent bs ts) ++ returned w (after_all w env (m j) (stas_filled Absent bs ts)) (n j) (filled_in Absent (drop (length (stas_leaves ts)) bs) tail)) in
-    let slots : three.slots ≡ length ps + lets_all (stas_filled Absent bs ts) =
+    ∙ (λ j. (no_code j ++ body_all w (with_params (no_slots j) ps (no_locals j)) (no_slots j + length ps) (no_labels j) (stas_reduced w (stas_filled Absent (all_left j) ts)))
+    ++ returned w (after_all w (with_params (no_slots j) ps (no_locals j)) (no_slots j + length ps) (stas_reduced w (stas_filled Absent (all_left j) ts))) (no_labels j + places_all (stas_reduced w (stas_filled Absent (all_left j) ts))) (reduced_in w (filled_in Absent (drop (length (stas_leaves ts)) (all_left j)) tail)))
+    ∙ (λ j. body_all w env (m j) 0 first ++ returned w (after_all w env (m j) first) (n j) last) in
+    let slots : three.slots ≡ length ps + lets_all first =
     let k : three.slots ≡ s.slots + length ps + lets_all ts = ap (λ (x : Lowerer). x.slots) made in
-    omega (arith, k, no_slots, lets_all_filled Absent bs ts) in
+    omega (arith, k, no_slots, same_lets_all w bs ts) in
     (λ j. record { inline = inlined; params = length ps; slots = slots j; code = code j })
 
 pub ruleset wholes = (declared_none, params_at)

@@ -1,4 +1,4 @@
--- The instructions of a tree. n is the number of the next label, m the next slot: labels are numbered in the order in which
+-- The instructions of a tree; truth values are 1 and 0. n is the number of the next label, m the next slot: labels are numbered in the order in which
 -- they are first needed, slots in that of the `let`s.
 use Rattle.std.specs.Prelude.{ℕ, ◌+◌, ℤ, pos, Bool, true, false, List, [], ◌∷◌, ◌++◌, Option, Some, None}
 use Rattle.rs_tree.specs.declared.answers.Found.TheVariants as f
@@ -17,13 +17,9 @@ use Rattle.rs_tree.specs.Plain.{Exp, Exps, Operands, Number, Truth, Path, Call, 
 use Rattle.rs_tree.specs.Plain.{Sta, Stas, Arms, Let, Assign, Return, Eval, While, If, Print, Bare, Else, Arm}
 use Rattle.rs_lower.specs.Meanings.{Leaf, Meanings, const_at, callee, sig_of, has_kind, gives_truth, gives_value, is_truth_const, is_truth_type}
 use Rattle.rs_lookup.specs.Places.{place_name}
+use Rattle.rs_value.specs.Value.{number_of}
 use Rattle.rs_lower.specs.Locals.{Local, Env, find}
 use Rattle.rs_lower.specs.Counts.{labels, places, places_all, lets, lets_all}
-
--- truth values are 1 and 0
-abbrev pub number_of : Bool → ℤ
-number_of true = pos 1
-number_of false = pos 0
 
 abbrev pub arith_code : ArithOp → ℕ
 arith_code arith.Add = 0x10
@@ -74,6 +70,11 @@ path_code w env (p, f.Absent) = i.Push (pos 0)
 abbrev pub call_code : Meanings → Leaf → Instr
 call_code w (p, found) = i.Call (has_kind 2 (sig_of w found)) (callee p found)
 
+-- the jump of a part that decides, of `&&` or where `either` of `||`
+abbrev pub jump_code : Bool → ℕ
+jump_code false = 0x29
+jump_code true = 0x2a
+
 -- the end of a chain: f leads to the value, and e is past it
 abbrev pub chain_end : ℤ → ℕ → ℕ → List Instr
 chain_end v f e = i.Jump 0x28 e ∷ i.Label f ∷ i.Push v ∷ i.Label e ∷ []
@@ -89,8 +90,8 @@ abbrev mutual
   code w env n (Unary at op e) = code w env n e ++ i.Plain (unary_code op) ∷ []
   code w env n (Arith at a more) = code w env n a ++ code_by w env (n + labels a) more
   code w env n (Compare at op a b) = code w env n a ++ (code w env (n + labels a) b ++ i.Plain (compare_code op) ∷ [])
-  code w env n (And at parts) = code_chain w env 0x29 (pos 0) n parts
-  code w env n (Or at parts) = code_chain w env 0x2a (pos 1) n parts
+  code w env n (And at parts) = code_chain w env (jump_code false) (number_of false) n parts
+  code w env n (Or at parts) = code_chain w env (jump_code true) (number_of true) n parts
 
   pub code_all : Meanings → Env → ℕ → Exps Leaf → List Instr
   code_all w env n Exps.Empty = []

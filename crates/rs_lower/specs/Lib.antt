@@ -3,6 +3,8 @@ pub mod Locals
 pub mod Held
 pub mod Counts
 pub mod Code
+pub mod Reduced
+pub mod Fixed
 pub mod Lowered
 pub mod State
 pub mod Laws

@@ -1,5 +1,5 @@
--- The intermediate form of a function.
-use Rattle.std.specs.Prelude.{ℕ, ◌+◌, ◌&&◌, Bool, true, false, nat_le, if◌then◌else◌, List, [], ◌∷◌, ◌++◌, length, drop, Option}
+-- The intermediate form of a function. Level 1 is level 0 of the reduced tree.
+use Rattle.std.specs.Prelude.{ℕ, ◌+◌, ◌==◌, ◌&&◌, not, Bool, true, false, nat_le, if◌then◌else◌, List, [], ◌∷◌, ◌++◌, length, drop, Option}
 use Rattle.rs_tree.specs.declared.answers.Found.{Found}
 use Rattle.rs_tree.specs.declared.answers.Found.TheVariants.{Absent}
 use Rattle.rs_tree.specs.declared.answers.Const.{Const}
@@ -10,12 +10,14 @@ use Rattle.rs_tree.specs.declared.place.Place.{Place}
 use Rattle.rs_tree.specs.declared.tree.Item.{Item}
 use Rattle.rs_tree.specs.declared.tree.Param.{Param}
 use Rattle.rs_tree.specs.declared.tree.Path as path
+use Rattle.rs_tree.specs.declared.tree.Typ.{Typ}
 use Rattle.rs_tree.specs.Plain.{Exp, Stas, Definition, Const as constant, Func, definition}
 use Rattle.rs_tree.specs.Leaves.{stas_leaves, stas_filled, filled_in}
 use Rattle.rs_lower.specs.Meanings.{Leaf, Meanings, is_value_type}
 use Rattle.rs_lower.specs.Locals.{with_params}
 use Rattle.rs_lower.specs.Counts.{places_all, lets_all, labels_in}
 use Rattle.rs_lower.specs.Code.{body_all, after_all, returned}
+use Rattle.rs_lower.specs.Reduced.{stas_reduced, reduced_in}
 
 -- the most slots, and the most labels, of a function
 abbrev pub most : ℕ
@@ -45,13 +47,21 @@ within_definition (Func inlined params gives stmts tail) = is_within params stmt
 abbrev pub is_within_limits : Item → Bool
 is_within_limits item = within_definition (definition item.body)
 
-abbrev pub lowered_definition : List Found → List (Place × Sig) → List (Place × Const) → Definition path.Path → Ir
-lowered_definition found sigs consts (constant typ value) = no_code false
-lowered_definition found sigs consts (Func inlined params gives stmts tail) =
+-- level 0 folds nothing; any other folds
+abbrev pub meanings : ℕ → List (Place × Sig) → List (Place × Const) → Typ → Meanings
+meanings level sigs consts gives = record { sigs = sigs; consts = consts; gives = is_value_type gives; folds = not (level == 0) }
+
+-- the statements and the end of a function, reduced
+abbrev pub reduced_code : Meanings → Bool → List Param → Stas Leaf → Option (Exp Leaf) → Ir
+reduced_code w inlined params stmts tail = function_code w inlined params (stas_reduced w stmts) (reduced_in w tail)
+
+abbrev pub lowered_definition : ℕ → List Found → List (Place × Sig) → List (Place × Const) → Definition path.Path → Ir
+lowered_definition level found sigs consts (constant typ value) = no_code false
+lowered_definition level found sigs consts (Func inlined params gives stmts tail) =
     if is_within params stmts tail
-    then function_code (record { sigs = sigs; consts = consts; gives = is_value_type gives }) inlined params (stas_filled Absent found stmts) (filled_in Absent (drop (length (stas_leaves stmts)) found) tail)
+    then reduced_code (meanings level sigs consts gives) inlined params (stas_filled Absent found stmts) (filled_in Absent (drop (length (stas_leaves stmts)) found) tail)
     else no_code inlined
 
 -- each path of the item has its answer, in order of the text
-abbrev pub lowered : List Found → List (Place × Sig) → List (Place × Const) → Item → Ir
-lowered found sigs consts item = lowered_definition found sigs consts (definition item.body)
+abbrev pub lowered : ℕ → List Found → List (Place × Sig) → List (Place × Const) → Item → Ir
+lowered level found sigs consts item = lowered_definition level found sigs consts (definition item.body)

@@ -17,11 +17,12 @@ use Rattle.rs_types.specs.Types.{sig_at}
 abbrev pub Leaf : Type 0
 Leaf = path.Path × Found
 
--- the signatures and the values of the items that paths lead to, and whether the function gives a value
+-- the signatures and the values of the items that paths lead to, whether the function gives a value, and whether its level folds
 pub record Meanings : Type 0 where
   pub sigs : List (Place × Sig)
   pub consts : List (Place × Const)
   pub gives : Bool
+  pub folds : Bool
 
 abbrev pub const_places : List (Place × Const) → List Name
 const_places entries = map (λ (e : Place × Const). place_name e.0) entries

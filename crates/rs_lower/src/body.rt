@@ -9,7 +9,7 @@ ghost use Rattle.rs_tree.specs.Plain.{exp, statements, choices, sta, optional, W
 ghost use Rattle.rs_lower.specs.Counts.{labels, labels_in, places, places_all, places_arms, lets, lets_all, lets_arms};
 ghost use Rattle.rs_lower.specs.Code.{stored, popped, has_value, is_truth, is_truth_let, print_code, return_code};
 ghost use Rattle.rs_lower.specs.Locals.{find};
-ghost use Rattle.rs_lower.specs.State.{put, with_let, with_assign, with_eval, with_print, with_return, with_sta, with_stas, with_block, with_arm, with_arms};
+ghost use Rattle.rs_lower.specs.State.{put, reduce, with_let, with_assign, with_eval, with_print, with_return, with_sta, with_stas, with_block, with_arm, with_arms};
 
 use crate::expr::Lowerer;
 use crate::locals::Held;
@@ -49,7 +49,7 @@ impl<'a, 'b> Lowerer<'a, 'b> {
         ensures { OnOk result (self.new ≡ with_let name.now typ (exp value.now) self.old) }
     {
         let truth = self.is_truth_let(typ, value);
-        self.expression(value)?;
+        self.value(value)?;
         let slot = self.slots;
         self.push(Instr::Store(slot))?;
         self.slots += 1;
@@ -61,7 +61,7 @@ impl<'a, 'b> Lowerer<'a, 'b> {
         requires { self.old.labels + labels (exp value.now) ≤ 65535 }
         ensures { OnOk result (self.new ≡ with_assign name.now (exp value.now) self.old) }
     {
-        self.expression(value)?;
+        self.value(value)?;
         let instr = self.store(name);
         self.push(instr)
     }
@@ -84,7 +84,7 @@ impl<'a, 'b> Lowerer<'a, 'b> {
         match value {
             None => self.push(Instr::Plain(0x31)),
             Some(e) => {
-                self.expression(e)?;
+                self.value(e)?;
                 self.push(Instr::Plain(return_code(self.meanings.gives())))
             }
         }
@@ -96,7 +96,7 @@ impl<'a, 'b> Lowerer<'a, 'b> {
         ensures { OnOk result (self.new ≡ with_eval (exp value.now) self.old) }
     {
         let pops = self.has_value(value);
-        self.expression(value)?;
+        self.value(value)?;
         self.pop_if(pops)
     }
 
@@ -115,7 +115,7 @@ impl<'a, 'b> Lowerer<'a, 'b> {
         ensures { OnOk result (self.new ≡ with_print (exp value.now) self.old) }
     {
         let code = print_code(self.is_truth(value));
-        self.expression(value)?;
+        self.value(value)?;
         self.push(Instr::Plain(code))
     }
 
@@ -128,7 +128,7 @@ impl<'a, 'b> Lowerer<'a, 'b> {
     {
         let start = self.fresh();
         self.push(Instr::Label(start))?;
-        self.expression(cond)?;
+        self.value(cond)?;
         let end = self.fresh();
         self.push(Instr::Jump(0x29, end))?;
         self.block(body)?;
@@ -169,10 +169,10 @@ impl<'a, 'b> Lowerer<'a, 'b> {
     fn arm(&mut self, body: &'a [Stmt], cond: &'a Expr) -> Result<u16, Memory>
         requires labels { self.old.labels + (1 + labels (exp cond.now) + places_all (statements body.now)) ≤ 65535 }
         requires slots { self.old.slots + lets_all (statements body.now) ≤ 65535 }
-        ensures number { IfOk result (λ past. past ≡ self.old.labels + labels (exp cond.now)) }
+        ensures number { IfOk result (λ past. past ≡ self.old.labels + labels (reduce self.old (exp cond.now))) }
         ensures lowered { OnOk result (self.new ≡ with_arm (exp cond.now) (statements body.now) self.old) }
     {
-        self.expression(cond)?;
+        self.value(cond)?;
         let past = self.fresh();
         self.push(Instr::Jump(0x29, past))?;
         self.block(body)?;

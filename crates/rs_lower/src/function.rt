@@ -3,7 +3,7 @@ ghost use Rattle.rs_tree.specs.Plain.{statements, optional};
 ghost use Rattle.rs_tree.specs.Leaves.{filled_in, stas_filled, stas_leaves};
 ghost use Rattle.rs_tree.specs.declared.answers.Found.TheVariants.{Absent};
 ghost use Rattle.rs_lower.specs.Laws.{IsForm};
-ghost use Rattle.rs_lower.specs.Lowered.{function_code, is_within, is_within_limits, lowered, no_code};
+ghost use Rattle.rs_lower.specs.Lowered.{is_within, is_within_limits, lowered, no_code, reduced_code};
 ghost use Rattle.rs_lower.specs.State.{declared_params};
 
 use crate::answers::Answers;
@@ -19,7 +19,8 @@ use std::alloc::Global;
 /// The most slots, and the most labels, of a function.
 const MOST: u32 = 65_535;
 
-/// The intermediate form of a function.
+/// The intermediate form of a function. Level 0 folds nothing; any other level is level 0 of the function in which what has a value
+/// stands as that value.
 ///
 /// `found` has an answer for each path of the item, in order of the text; `sigs` has each function that a path leads
 /// to, and `consts` the value of each constant. A function of more than 65,535 slots or labels, and what is no
@@ -30,11 +31,12 @@ pub fn lower(
     found: &List<Found>,
     sigs: &List<(Place, Sig)>,
     consts: &List<(Place, Const)>,
+    level: u8,
 ) -> Result<Ir, Memory>
-    ensures lowered { IfOk result (λ ir. ir ≡ lowered found.now sigs.now consts.now item.now) }
+    ensures lowered { IfOk result (λ ir. ir ≡ lowered level found.now sigs.now consts.now item.now) }
     ensures form { IfOk result IsForm }
 {
-    let ir = form_of(item, found, sigs, consts)?;
+    let ir = form_of(item, found, sigs, consts, level)?;
     Ok(ir)
 }
 
@@ -59,8 +61,9 @@ fn form_of(
     found: &List<Found>,
     sigs: &List<(Place, Sig)>,
     consts: &List<(Place, Const)>,
+    level: u8,
 ) -> Result<Ir, Memory>
-    ensures { IfOk result (λ ir. ir ≡ lowered found.now sigs.now consts.now item.now) }
+    ensures { IfOk result (λ ir. ir ≡ lowered level found.now sigs.now consts.now item.now) }
 {
     let alloc = found.allocator();
     match &item.body {
@@ -81,6 +84,7 @@ fn form_of(
                 sigs.as_slice(),
                 consts.as_slice(),
                 is_value_type(*gives),
+                level != 0,
             )?;
             let params = params.as_slice();
             lower_function(
@@ -134,7 +138,7 @@ fn lower_function<'a>(
     known: &Known<'a>,
 ) -> Result<Ir, Memory>
     requires { IsTrue (is_within params.now (statements stmts.now) (optional tail.now)) }
-    ensures { IfOk result (λ ir. ir ≡ function_code known.now inline params.now (stas_filled Absent found.now (statements stmts.now)) (filled_in Absent (drop (length (stas_leaves (statements stmts.now))) found.now) (optional tail.now))) }
+    ensures { IfOk result (λ ir. ir ≡ reduced_code known.now inline params.now (stas_filled Absent found.now (statements stmts.now)) (filled_in Absent (drop (length (stas_leaves (statements stmts.now))) found.now) (optional tail.now))) }
 {
     let mut lowerer = Lowerer {
         code: List::new(alloc),

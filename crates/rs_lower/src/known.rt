@@ -13,13 +13,14 @@ use rs_types::Sigs;
 use std::alloc::Global;
 use std::marker::Model;
 
-/// What is known of the items that paths lead to, and whether the function gives a value.
+/// What is known of the items that paths lead to, whether the function gives a value, and whether its level folds.
 #[derive(Drop)]
 pub(crate) struct Known<'a> {
     sigs: Sigs<'a>,
     consts: &'a [(Place, Const)],
     places: Places<'a>,
     gives: bool,
+    folds: bool,
 }
 
 impl<'a> Model for Known<'a> {
@@ -28,7 +29,7 @@ impl<'a> Model for Known<'a> {
 
     ghost Value = { Meanings };
 
-    ghost view = { λ k. record { sigs = k.sigs; consts = k.consts.now; gives = k.gives } };
+    ghost view = { λ k. record { sigs = k.sigs; consts = k.consts.now; gives = k.gives; folds = k.folds } };
 
     ghost invariant = { λ k. k.places ≡ const_places k.consts.now };
 }
@@ -39,8 +40,9 @@ impl<'a> Known<'a> {
         sigs: &'a [(Place, Sig)],
         consts: &'a [(Place, Const)],
         gives: bool,
+        folds: bool,
     ) -> Result<Known<'a>, Memory>
-        ensures { IfOk result (λ k. k ≡ record { sigs = sigs.now; consts = consts.now; gives = gives }) }
+        ensures { IfOk result (λ k. k ≡ record { sigs = sigs.now; consts = consts.now; gives = gives; folds = folds }) }
     {
         let sigs = Sigs::new(alloc, sigs)?;
         let places = places_of(alloc, consts)?;
@@ -49,6 +51,7 @@ impl<'a> Known<'a> {
             consts,
             places,
             gives,
+            folds,
         })
     }
 
@@ -86,6 +89,12 @@ impl<'a> Known<'a> {
         ensures { result ≡ self.now.gives }
     {
         self.gives
+    }
+
+    pub(crate) fn folds(&self) -> bool
+        ensures { result ≡ self.now.folds }
+    {
+        self.folds
     }
 }
 

@@ -3,11 +3,12 @@
 ghost use Rattle.std.specs.Prelude.{◌≡◌, IsTrue};
 ghost use Rattle.std.specs.Option.{option_copied};
 ghost use Rattle.rs_tree.specs.declared.answers.Found.TheVariants.{Absent};
-ghost use Rattle.rs_tree.specs.Leaves.{answer, filled};
+ghost use Rattle.rs_tree.specs.Leaves.{answer};
 ghost use Rattle.rs_tree.specs.Plain.{exp};
 ghost use Rattle.rs_lower.specs.Meanings.{gives_truth, gives_value, is_truth_const, is_truth_type, is_value_type};
 ghost use Rattle.rs_lower.specs.Code.{has_value, holds_truth, is_not, is_truth, is_truth_let, is_truth_path};
 ghost use Rattle.rs_lower.specs.Locals.{find};
+ghost use Rattle.rs_lower.specs.State.{reduce};
 
 use crate::expr::Lowerer;
 use rs_tree::{Const, Expr, Form, Found, Path, Sig, Typ, UnaryOp};
@@ -16,7 +17,7 @@ impl<'a, 'b> Lowerer<'a, 'b> {
     /// Whether the next expression has a value.
     #[tactic(auto, using(crate::proofs::Values::kinds))]
     pub(crate) fn has_value(&self, e: &'a Expr) -> bool
-        ensures { result ≡ has_value self.now.meanings.now (filled Absent self.now.answers (exp e.now)) }
+        ensures { result ≡ has_value self.now.meanings.now (reduce self.now (exp e.now)) }
     {
         match &e.form {
             Form::Call(_, _) => gives_value(self.sig_of(self.answers.next())),
@@ -35,7 +36,7 @@ impl<'a, 'b> Lowerer<'a, 'b> {
     /// Whether the value of the next expression is a truth value.
     #[tactic(auto, using(crate::proofs::Values::kinds))]
     pub(crate) fn is_truth(&self, e: &'a Expr) -> bool
-        ensures { result ≡ is_truth self.now.meanings.now self.now.locals (filled Absent self.now.answers (exp e.now)) }
+        ensures { result ≡ is_truth self.now.meanings.now self.now.locals (reduce self.now (exp e.now)) }
     {
         match &e.form {
             Form::Path(path) => self.is_truth_path(path),
@@ -75,7 +76,7 @@ impl<'a, 'b> Lowerer<'a, 'b> {
     /// Whether a variable with this type, or else with the next value, holds a truth value.
     #[tactic(auto, using(crate::proofs::Values::kinds))]
     pub(crate) fn is_truth_let(&self, typ: Option<Typ>, value: &'a Expr) -> bool
-        ensures { result ≡ is_truth_let self.now.meanings.now self.now.locals typ (filled Absent self.now.answers (exp value.now)) }
+        ensures { result ≡ is_truth_let self.now.meanings.now self.now.locals typ (reduce self.now (exp value.now)) }
     {
         match typ {
             None => self.is_truth(value),
@@ -136,7 +137,7 @@ fn is_truth_const(value: Option<&Const>) -> bool
     }
 }
 
-fn is_not(op: UnaryOp) -> bool
+pub(crate) fn is_not(op: UnaryOp) -> bool
     ensures { result ≡ is_not op }
 {
     match op {

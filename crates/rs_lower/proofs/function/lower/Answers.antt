@@ -4,4 +4,4 @@ use Rattle.rs_lower.proofs.Formed.{lowered_form}
 use Rattle.rs_lower.proofs.function.lower.Goals as goal
 
 pub returns-clause-form : goal.returns-clause-form
-returns-clause-form c = subst IsForm (sym c.in_ok-ir.ensures) (lowered_form c.args.found.now c.args.sigs.now c.args.consts.now c.args.item.now)
+returns-clause-form c = subst IsForm (sym c.in_ok-ir.ensures) (lowered_form c.args.level c.args.found.now c.args.sigs.now c.args.consts.now c.args.item.now)

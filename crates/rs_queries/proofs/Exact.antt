@@ -1,14 +1,17 @@
 -- Each text has exactly one answer.
-use Rattle.std.proofs.Common.{◌≡◌, ℕ, List, refl, sym, ap, subst, ◌∙◌}
+use Rattle.std.proofs.Common.{◌≡◌, ℕ, List, length, refl, sym, ap, subst, ◌∙◌}
 use Rattle.std.specs.Prelude.{Some, None, Result, Ok, Err}
 use Rattle.rs_tree.specs.declared.tree.Crate.{Crate}
 use Rattle.rs_reach.specs.Laws.{Ends, FindsOnce, FindsReached}
 use Rattle.rs_lines.specs.Lines.{printed, printed_all}
 use Rattle.rs_lines.specs.declared.line.Line.{Line}
 use Rattle.rs_text.specs.Laws.{TextIs}
-use Rattle.rs_text.specs.Text.{IsTextAs, text_of}
+use Rattle.rs_text.specs.Text.{IsTextAs, IsTextRefusal, text_of}
 use Rattle.rs_text.specs.declared.fault.TextFault.{TextFault}
 use Rattle.rs_text.specs.declared.fault.TextFault.TheVariants as text
+use Rattle.rs_units.specs.Units.{units_of}
+use Rattle.rs_queries.specs.declared.compiled.Compiled.{Compiled}
+use Rattle.rs_queries.specs.Built.{IsCompiled, IsFaultCompiled, IsTreeCompiled, built_of, tree_index}
 use Rattle.rs_queries.specs.Diagnosed.{IsDiagnosis, OfText, SaysFault, SaysTree, fault_line, tree_lines}
 use Rattle.rs_queries.specs.Known.{constants_of}
 use Rattle.rs_queries.proofs.Values.{one, there}
@@ -27,6 +30,14 @@ module _ (bytes : List ℕ) (F : TextFault → Type 0) (T : Crate → Type 0) wh
     fault = λ g e. absurd (let bad : Ok krate ≡ Err g = sym is ∙ e in cc);
     tree = λ other e. (let both : Ok krate ≡ Ok other = sym is ∙ e in let same : krate ≡ other = cc in subst T same h);
   }
+
+  -- a fault of which this is so is that of the text, unless it is so of want of memory
+  pub refused : (f : TextFault) → IsTextRefusal bytes f → F f → (F text.Memory → ⊥) → OfText bytes F T
+  refused (text.Byte at) is h never = of_fault (text.Byte at) is h
+  refused (text.Nesting at) is h never = of_fault (text.Nesting at) is h
+  refused (text.Syntax at) is h never = of_fault (text.Syntax at) is h
+  refused (text.Twice at name) is h never = of_fault (text.Twice at name) is h
+  refused text.Memory is h never = absurd (never h)
 
 module _ {A : Type 0} (bytes : List ℕ) (F : TextFault → A → Type 0) (T : Crate → A → Type 0) where
   -- of one answer alone, where that is so of each fault and each tree
@@ -48,6 +59,9 @@ module _ {A : Type 0} (bytes : List ℕ) (F : TextFault → A → Type 0) (T : C
       by (Ok krate) e = (let x = trees krate in (x.0, of_tree bytes (λ g. F g x.0) (λ other. T other x.0) krate e x.1))
 
 -- ---- Diagnostics.
+
+pub no_memory : (out : List ℕ) → SaysFault text.Memory out → ⊥
+no_memory out says = (let bad : None ≡ Some says.line = says.is in cc)
 
 line_there : (bytes : List ℕ) (f : TextFault) → IsTextAs bytes (Err f) → (l : Line) × (fault_line f ≡ Some l)
 line_there bytes (text.Byte at) h = (_, refl)
@@ -76,3 +90,36 @@ is texts ends reached once bytes = some_answer bytes SaysFault SaysTree (texts.i
   where
     said : (krate : Crate) → (out : List ℕ) × SaysTree krate out
     said krate = (let vs = there ends reached once (constants_of krate) in (printed_all (tree_lines krate vs.0), record { values = vs.0; are = vs.1; says = refl }))
+
+-- ---- Builds.
+
+same_parts : (c d : Compiled) → c.diags ≡ d.diags → c.units ≡ d.units → c.built ≡ d.built → c ≡ d
+same_parts c d diags units built = λ j. record { diags = diags j; units = units j; built = built j }
+
+same_fault_build : (f : TextFault) (c d : Compiled) → IsFaultCompiled f c → IsFaultCompiled f d → c ≡ d
+same_fault_build f c d x y = same_parts c d (same_fault f c.diags d.diags x.says y.says) (x.units ∙ sym y.units) (x.built ∙ sym y.built)
+
+same_tree_build : (level : ℕ) (krate : Crate) (c d : Compiled) → IsTreeCompiled krate level c → IsTreeCompiled krate level d → c ≡ d
+same_tree_build level krate c d x y =
+    let values = one (constants_of krate) x.values y.values x.are y.are in
+    same_parts c d (x.says ∙ ap (λ vs. printed_all (tree_lines krate vs)) values ∙ sym y.says) (x.units ∙ sym y.units) (x.built ∙ ap (built_of krate level) values ∙ sym y.built)
+
+pub only_build : (bytes : List ℕ) (level : ℕ) (c d : Compiled) → IsCompiled bytes level c → IsCompiled bytes level d → c ≡ d
+only_build bytes level c d p q = same_answer bytes IsFaultCompiled (λ krate e. IsTreeCompiled krate level e) same_fault_build (same_tree_build level) c d p q
+
+pub is_build : TextIs → Ends → FindsReached → FindsOnce → (bytes : List ℕ) (level : ℕ) → (c : Compiled) × IsCompiled bytes level c
+is_build texts ends reached once bytes level = some_answer bytes IsFaultCompiled (λ krate e. IsTreeCompiled krate level e) (texts.is bytes) refusal built
+  where
+    refusal : (f : TextFault) → IsTextAs bytes (Err f) → (c : Compiled) × IsFaultCompiled f c
+    refusal f is = (let out = fault_said bytes f is in (record { diags = out.0; units = 0; built = None }, record { says = out.1; units = refl; built = refl }))
+
+    built : (krate : Crate) → (c : Compiled) × IsTreeCompiled krate level c
+    built krate =
+        let vs = there ends reached once (constants_of krate) in
+        (record { diags = printed_all (tree_lines krate vs.0); units = length (units_of (tree_index krate)); built = built_of krate level vs.0 }, record { values = vs.0; are = vs.1; says = refl; units = refl; built = refl })
+
+pub build_diagnosis : (bytes : List ℕ) (level : ℕ) (c : Compiled) → IsCompiled bytes level c → IsDiagnosis bytes c.diags
+build_diagnosis bytes level c h = record {
+  fault = λ f e. (h.fault f e).says;
+  tree = λ krate e. (let t = h.tree krate e in record { values = t.values; are = t.are; says = t.says });
+}

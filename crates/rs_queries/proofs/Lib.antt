@@ -1,3 +1,4 @@
+mod Emitted
 mod Exact
 mod Tellings
 mod Values

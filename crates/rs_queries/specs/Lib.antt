@@ -1,3 +1,4 @@
+pub mod Built
 pub mod Diagnosed
 pub mod Known
 pub mod Limits

@@ -1,12 +1,16 @@
 -- What the code has made ready of a tree.
-use Rattle.std.specs.Prelude.{◌≡◌, ℕ, List, map, Some, None, if◌then◌else◌}
+use Rattle.std.specs.Prelude.{◌≡◌, ℕ, List, length, map, Some, None, if◌then◌else◌}
 use Rattle.std.specs.List.{filter_map}
+use Rattle.rs_tree.specs.declared.index.Index.{Index}
 use Rattle.rs_tree.specs.declared.index.IndexItem.{IndexItem}
 use Rattle.rs_tree.specs.declared.tree.Placed.{Placed}
 use Rattle.rs_lines.specs.Lines.{has_error, in_order, printed_all}
 use Rattle.rs_const.specs.Constants.{AreValues}
+use Rattle.rs_units.specs.Units.{units_of}
+use Rattle.rs_queries.specs.declared.compiled.Compiled.{Compiled}
 use Rattle.rs_queries.specs.declared.known.Known.{Known}
 use Rattle.rs_queries.specs.declared.checked.Checked.{Checked}
+use Rattle.rs_queries.specs.Built.{built_by}
 use Rattle.rs_queries.specs.Diagnosed.{all_lines, calls_of, own_lines}
 use Rattle.rs_queries.specs.Known.{answered, entry_of, sig_of}
 
@@ -26,3 +30,11 @@ pub record SaysItems (items : List IndexItem) (placed : List Placed) (out : List
   pub known : Known
   pub are : IsKnown items placed known
   pub says : out ≡ printed_all (in_order (all_lines items known.sigs known.constants known.values.items known.answered.items))
+
+-- what is compiled of an index's items, of which this is known
+pub record IsItemsCompiled (index : Index) (placed : List Placed) (level : ℕ) (c : Compiled) : Type 0 where
+  pub known : Known
+  pub are : IsKnown index.items placed known
+  pub says : c.diags ≡ printed_all (in_order (all_lines index.items known.sigs known.constants known.values.items known.answered.items))
+  pub units : c.units ≡ length (units_of index)
+  pub built : c.built ≡ built_by index known.sigs known.constants known.values.items known.answered.items level

@@ -56,6 +56,12 @@ impl<'a> Answered<'a> {
         self.found.as_slice()
     }
 
+    pub(crate) fn list(&self) -> &List<Found>
+        ensures { result.now ≡ self.now.1 }
+    {
+        &self.found
+    }
+
     /// A copy of the answers.
     pub(crate) fn answers(&self) -> Result<List<Found>, Memory>
         ensures { IfOk result (λ fs. fs ≡ self.now.1) }

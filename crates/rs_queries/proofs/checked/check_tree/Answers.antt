@@ -1,6 +1,5 @@
-use Rattle.std.proofs.Common.{◌≡◌, ap, sym, ◌∙◌, map, fold, List, Bool}
-use Rattle.std.specs.Prelude.{Option, Some, None, if◌then◌else◌}
-use Rattle.rs_tree.specs.declared.place.Place.{Place}
+use Rattle.std.proofs.Common.{ap, sym, ◌∙◌, map, fold, Bool}
+use Rattle.std.specs.Prelude.{Some, None, if◌then◌else◌}
 use Rattle.rs_lines.specs.Lines.{note}
 use Rattle.rs_queries.specs.Diagnosed.{calls_of, dead_lines, own_lines}
 use Rattle.rs_queries.proofs.Tellings.{errors_of, with_error, without_error}

@@ -1,4 +1,4 @@
-use Rattle.std.proofs.Common.{◌≡◌, ap, ◌∙◌, map, fold}
+use Rattle.std.proofs.Common.{ap, ◌∙◌, map, fold}
 use Rattle.std.specs.Prelude.{Some}
 use Rattle.std.specs.List.{flat_map}
 use Rattle.rs_lookup.specs.Places.{place_name}

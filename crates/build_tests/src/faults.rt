@@ -1,6 +1,9 @@
-use crate::room::{Case, EMITTED, SURE, Seen, WORDS, call};
+use crate::room::{Case, SURE, Seen, WORDS, call};
 use std::alloc::Global;
 use std::test::Fail;
+
+/// What is written where closing the lock was answered by a fault.
+const NOTED: &[u8] = b"emitted 1 of 1\nnote: collection stopped\n";
 
 const FAULT: &[u8] = b"incc: directory fault\n";
 
@@ -33,7 +36,7 @@ fn a_fault_up_to_the_rename_refuses(rt: HostRuntime) -> Result<(), Fail> {
         (2, 5, 0),
         (3, 6, 0),
         (4, 7, 0),
-        (5, 8, 0),
+        (5, 8, 1),
         (6, 9, 1),
         (7, 10, 1),
     ] {
@@ -59,7 +62,7 @@ fn an_append_that_fails_anywhere_refuses(rt: HostRuntime) -> Result<(), Fail> {
 }
 
 #[test]
-fn a_fault_of_the_last_close_is_passed_over(rt: HostRuntime) -> Result<(), Fail> {
+fn a_fault_of_the_last_close_is_noted(rt: HostRuntime) -> Result<(), Fail> {
     let done = Seen {
         status: 0,
         says: true,
@@ -67,6 +70,6 @@ fn a_fault_of_the_last_close_is_passed_over(rt: HostRuntime) -> Result<(), Fail>
         events: 11,
         emitted: 1,
     };
-    assert_eq!(rt; failing(rt.alloc(), 8, 0, EMITTED)?, done);
+    assert_eq!(rt; failing(rt.alloc(), 8, 0, NOTED)?, done);
     Ok(())
 }

@@ -34,18 +34,33 @@ const PATH: [Answer; 8] = [
     Answer::Done,
 ];
 
-/// After so many of them, a reply with which it doesn't.
-const WRONG: [(usize, Answer); 10] = [
-    (1, Answer::Exists),
-    (2, Answer::Held),
-    (2, Answer::Missing),
-    (3, Answer::Nothing),
+/// After so many of them, a reply that disagrees with them.
+const WRONG: [(usize, Answer); 6] = [
     (4, Answer::Exists),
     (5, Answer::Missing),
     (5, Answer::Exists),
     (6, Answer::Missing),
     (7, Answer::Missing),
     (7, Answer::Exists),
+];
+
+/// The replies with which it loses a name: its lock file is there, its lock is another's, a look doesn't list it.
+const LOST: [&[Answer]; 4] = [
+    &[Answer::Drawn, Answer::Exists],
+    &[Answer::Drawn, Answer::Handle, Answer::Held, Answer::Done],
+    &[
+        Answer::Drawn,
+        Answer::Handle,
+        Answer::Missing,
+        Answer::Missing,
+    ],
+    &[
+        Answer::Drawn,
+        Answer::Handle,
+        Answer::Got,
+        Answer::Nothing,
+        Answer::Done,
+    ],
 ];
 
 fn listing(alloc: Global) -> Result<List<Label>, Fail> {
@@ -78,6 +93,21 @@ fn script(alloc: Global, acts: usize, last: Answer) -> Result<List<Reply>, Fail>
     Ok(replies)
 }
 
+/// These replies so many times, and then those of the path.
+fn losing(alloc: Global, lost: &[Answer], names: usize) -> Result<List<Reply>, Fail> {
+    let mut replies = List::new(alloc);
+    for _ in 0..names {
+        for answer in lost {
+            replies.push(reply_of(alloc, *answer)?)?;
+        }
+    }
+    for answer in PATH.iter() {
+        replies.push(reply_of(alloc, *answer)?)?;
+    }
+    replies.push(reply_of(alloc, Answer::Done)?)?;
+    Ok(replies)
+}
+
 /// The status of a build in a directory with these replies, whose source fails at these calls, and whether
 /// `out` has this line.
 fn replay(
@@ -95,6 +125,18 @@ fn replay(
         alloc, &WORDS, &mut src, &mut dir, &mut out, &mut image, &mut meter,
     );
     Ok((status, out.bytes() == line))
+}
+
+#[test]
+fn the_eighth_lost_name_is_the_last(rt: HostRuntime) -> Result<(), Fail> {
+    let alloc = rt.alloc();
+    for lost in LOST {
+        let seven = replay(alloc, losing(alloc, lost, 7)?, &[], b"emitted 1 of 1\n")?;
+        assert_eq!(rt; seven, (0, true), "{lost:?}");
+        let eight = replay(alloc, losing(alloc, lost, 8)?, &[], b"incc: lost 8 names\n")?;
+        assert_eq!(rt; eight, (7, true), "{lost:?}");
+    }
+    Ok(())
 }
 
 #[test]

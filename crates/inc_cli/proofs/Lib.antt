@@ -4,4 +4,5 @@ pub mod Nine
 pub mod Texts
 pub mod Visiting
 pub mod Publishing
+pub mod Leaving
 pub mod Building

@@ -1,44 +1,74 @@
--- What a session that ended has published.
-use Rattle.std.proofs.Common.{◌≡◌, ℕ, Some, None, ap, ◌∙◌, sym, subst}
-use Rattle.std.specs.Prelude.{Option, List}
+-- What a session that ended has published, or why it hasn't.
+use Rattle.std.proofs.Common.{◌≡◌, ℕ, Some, None, ap, ◌∙◌, sym, subst, inr, refl, option_map}
+use Rattle.std.specs.Prelude.{Bool, Option}
+use Rattle.inc_base.specs.Meters.{raised}
+use Rattle.inc_base.specs.Outside.{Rose}
 use Rattle.inc_base.specs.declared.job.Job.{Job}
+use Rattle.inc_fs.specs.Paths.{Text}
+use Rattle.inc_plan.specs.Plan.{Follows}
 use Rattle.inc_proto.specs.Events.{Steps}
+use Rattle.inc_session.specs.Compiling.{compiled_of, made_of, units_of}
+use Rattle.inc_session.specs.Ends.{IsEndOf}
+use Rattle.inc_session.specs.Made.{HasMade, outcome_of}
+use Rattle.inc_session.specs.Order.{plan_of}
+use Rattle.inc_session.specs.Reading.{metered}
 use Rattle.inc_session.specs.declared.outcome.Outcome.{Outcome}
-use Rattle.inc_session.specs.declared.outcome.Outcome.TheVariants.{Built, DiskFault, Disturbed}
-use Rattle.inc_session.specs.declared.stage.Stage.TheVariants.{Close}
-use Rattle.inc_session.specs.Order.{IsWholePath}
-use Rattle.inc_session.specs.Machine.{Going, HasMade, HasMadeBy, begun, plan_of, meter_at}
+use Rattle.inc_session.specs.declared.outcome.Outcome.TheVariants.{Built, Errors, DiskFault, Lost as AllLost, Disturbed as DisturbedBy}
+use Rattle.inc_session.specs.declared.outcome.Used.{Used}
+use Rattle.inc_session.specs.declared.session.Session.{Session}
+use Rattle.rs_literal.specs.Literal.{IsLiteral}
+use Rattle.rs_literal.specs.LiteralLaws.{literal_number_is}
+use Rattle.inc_cli.specs.declared.status.Status.{Status}
+use Rattle.inc_cli.specs.declared.status.Status.TheVariants.{DirectoryFault, OutOfMemory, Lost, Disturbed, NotBuilt}
 use Rattle.inc_cli.specs.Run.{Telling, HasVisited}
-use Rattle.inc_cli.specs.Parts.{IsBuilt, HasOutcome, HasSession}
+use Rattle.inc_cli.specs.Visits.{HasEnded}
+use Rattle.inc_cli.specs.Parts.{HasOutcome, HasSession, FailsOutcome, FailsSession}
 
--- an outcome with an image is that of a session that built
-record Built_by (g : Going) (image : List ℕ) (emitted units : ℕ) (steps : Steps) : Type 0 where
-  pub built : IsBuilt image emitted units g.number
-  pub whole : IsWholePath g.plan steps
-  pub closing : g.stage ≡ Close
+-- a text of the form has no errors
+literal_made : (job : Job) (number : ℕ) → IsLiteral job.text number → (compiled_of job).made ≡ Some (made_of number)
+unfolding compiled_of
+literal_made job number literal = ap (option_map made_of) (literal_number_is job.text number literal)
 
-built_by : (g : Going) (outcome : Option Outcome) (image : List ℕ) (emitted units : ℕ) (steps : Steps)
-    → HasOutcome outcome image emitted units → HasMadeBy g None outcome steps → Built_by g image emitted units steps
-built_by g None image emitted units steps is made = absurd is
-built_by g (Some DiskFault) image emitted units steps is made = absurd is
-built_by g (Some (Disturbed asked reply)) image emitted units steps is made = absurd is
-built_by g (Some (Built its_image its_emitted its_units)) image emitted units steps is made = record {
-  built = record { image_is = is.0 ∙ made.image_is; emitted_is = is.1 ∙ made.emitted_is; units_is = is.2 ∙ made.units_is };
-  whole = made.whole;
-  closing = made.closing;
-}
+module _ (causes : (s : Session) (steps : Steps) (outcome : Outcome) → HasMade s steps → outcome_of s ≡ Some outcome → IsEndOf s.task outcome steps)
+    (job : Job) (old new : Telling) (faults now started meter : ℕ) (g : Session) (task : g.task ≡ job)
+    (come : (steps : Steps) × HasVisited job steps old new × HasEnded g steps faults now started meter) where
+  abbrev steps : Steps
+  steps = come.0
 
-pub has_session : (job : Job) (number : ℕ) (image : List ℕ) (emitted units : ℕ) (old new : Telling) (before now : ℕ) (first g : Going)
-    → first ≡ begun job number → (g.plan ≡ first.plan) × (g.number ≡ first.number)
-    → (steps : Steps) × HasVisited job steps old new × HasMade g steps × (g.op ≡ None)
-    → ((start : ℕ) → before ≡ meter_at first.stage start → now ≡ meter_at g.stage start)
-    → HasOutcome g.outcome image emitted units → HasSession job number image emitted units old new before now
-has_session job number image emitted units old new before now first g is same came metered outcome =
-    let by = built_by g g.outcome image emitted units came.0 outcome (subst (λ op. HasMadeBy g op g.outcome came.0) came.3 came.2) in
-    let plan : g.plan ≡ plan_of job number = same.0 ∙ ap (λ s. s.plan) is in
-    let started : before ≡ meter_at first.stage before = ap (λ s. meter_at s.stage before) (sym is) in
-    record {
-      visit = record { steps = came.0; visited = came.1; ends = subst (λ p. IsWholePath p came.0) plan by.whole };
-      built = subst (IsBuilt image emitted units) (same.1 ∙ ap (λ s. s.number) is) by.built;
-      meter = metered before started ∙ ap (λ stage. meter_at stage before) by.closing;
-    }
+  ends : (outcome : Outcome) → outcome_of g ≡ Some outcome → IsEndOf job outcome steps
+  ends outcome is = subst (λ job. IsEndOf job outcome steps) task (causes g steps outcome come.2.made is)
+
+  meter_is : meter ≡ metered (units_of job) steps started
+  meter_is = come.2.metered ∙ ap (λ job. metered (units_of job) steps started) task
+
+  -- an outcome with an image is that of a session that built
+  pub has_session : (diags image : Text) (used : Used) (note : Bool) → HasOutcome (outcome_of g) diags image used note → HasSession job diags image used note old new started meter
+  has_session diags image used note is =
+      let end = ends (Built diags image used note) is in
+      record {
+        visit = record { steps = steps; visited = come.1; ends = end };
+        meter = meter_is ∙ end.cause.rose started ∙ ap (raised started) (sym end.cause.units_are);
+      }
+
+  rose_by : IsEndOf job DiskFault steps → Rose faults now
+  rose_by end = come.2.faulted end.cause.asked end.cause.before end.cause.made
+
+  fails_by : (number : ℕ) → IsLiteral job.text number → (outcome : Option Outcome) (status : Status) → outcome_of g ≡ outcome → FailsOutcome outcome status
+      → FailsSession status job old new (record { faults = faults; meter = started }) (record { faults = now; meter = meter })
+  fails_by number literal (Some DiskFault) DirectoryFault is cause = let end = ends DiskFault is in (record { steps = steps; visited = come.1; ends = end }, rose_by end)
+  fails_by number literal (Some (AllLost names)) Lost is cause =
+      let end = ends (AllLost names) is in
+      record { visit = record { steps = steps; visited = come.1; ends = (names, end) }; meter = meter_is ∙ end.cause.1.still started }
+  fails_by number literal (Some (DisturbedBy asked reply)) Disturbed is cause = record { steps = steps; visited = come.1; ends = (asked, reply, ends (DisturbedBy asked reply) is) }
+  fails_by number literal (Some (Errors diags note)) NotBuilt is cause =
+      let none = (ends (Errors diags note) is).cause.errors in
+      let some = literal_made job number literal in
+      absurd (cc)
+  fails_by number literal None OutOfMemory is cause =
+      inr (record { steps = steps; visited = come.1; ends = subst (λ job. Follows (plan_of job) steps) task come.2.made.follows })
+  fails_by number literal outcome status is cause = absurd cause
+
+  -- and another is the status's cause
+  pub fails_session : (number : ℕ) → IsLiteral job.text number → (status : Status) → FailsOutcome (outcome_of g) status
+      → FailsSession status job old new (record { faults = faults; meter = started }) (record { faults = now; meter = meter })
+  fails_session number literal status cause = fails_by number literal (outcome_of g) status refl cause

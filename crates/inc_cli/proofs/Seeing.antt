@@ -3,6 +3,7 @@ use Rattle.std.proofs.Common.{◌≡◌, ℕ, ◌==◌, ◌++◌, Bool, true, fa
 use Rattle.inc_base.specs.declared.job.Job.{Job}
 use Rattle.inc_fs.specs.declared.op.Op.{Op}
 use Rattle.inc_fs.specs.declared.op.Reply.{Reply}
+use Rattle.inc_laws.specs.Fair.{CanBe}
 use Rattle.inc_proto.specs.declared.event.Event.{Event}
 use Rattle.inc_proto.specs.declared.event.Event.TheVariants.{Begin, Did}
 use Rattle.inc_proto.specs.Events.{Steps, is_running, job_of, own_steps, latest}
@@ -35,6 +36,14 @@ seen_begun : (who : ℕ) (job : Job) (history : List Event) → view_of who (Beg
 seen_begun who job history =
     ap (λ b. cond (cond b true (is_running who history)) (sighted (cond b (Some job) (job_of who history)) (cond b [] (own_steps who history))) None) (eq-eqb who who refl)
 
+-- what a session that sees this is in a history
+viewed : (runs : Bool) (its : Option Job) (own : Steps) (job : Job) (steps : Steps) → cond runs (sighted its own) None ≡ Some (record { job = job; steps = steps }) → (cond runs its None ≡ Some job) × (own ≡ steps)
+viewed true None own job steps is = absurd (cc)
+viewed true (Some its) own job steps is =
+    let same : ◌≡◌ {A = Sight} (record { job = its; steps = own }) (record { job = job; steps = steps }) = cc in
+    (ap (λ (sight : Sight). Some sight.job) same, ap (λ (sight : Sight). sight.steps) same)
+viewed false its own job steps is = absurd (cc)
+
 module _ (own : List ℕ) (job : Job) where
   told_more : (steps : Steps) (there new : Option (List Event)) (asked : Op) (reply : Reply) → Sees own job steps there
       → TellsOn IsLegalHere own there new (Did (latest own) asked reply ∷ []) → Sees own job ((asked, reply) ∷ steps) new
@@ -62,8 +71,14 @@ module _ (own : List ℕ) (job : Job) where
     subst (λ h. view_of (latest own) h ≡ Some (record { job = job; steps = [] })) (sym told.is) (seen_begun (latest own) job (told.others ++ old)),
   )
 
-  -- what its own steps permit is what the directory asks
-  pub owed : (clear : List Job → Type 0) (steps : Steps) (told : Option (List Event)) (asked : Op) → Sees own job steps told → IsPermitted saved_files job steps asked
+  -- so where the history is legal, they are own steps that can be
+  can_be : (steps : Steps) (history : List Event) → view_of (latest own) history ≡ Some (record { job = job; steps = steps }) → IsLegalHere history → CanBe saved_files job steps
+  can_be steps history sees legal =
+      let v = viewed (is_running (latest own) history) (job_of (latest own) history) (own_steps (latest own) history) job steps sees in
+      record { events = history; legal = legal; who = latest own; runs = v.0; is = v.1 }
+
+  -- and what its own steps permit then is what the directory asks
+  pub owed : (clear : List Job → Type 0) (steps : Steps) (told : Option (List Event)) (asked : Op) → Sees own job steps told → (CanBe saved_files job steps → IsPermitted saved_files job steps asked)
       → IsOwed saved_files clear told own asked
   owed clear steps None asked sees permitted = tt
-  owed clear steps (Some history) asked sees permitted = λ legal clear. subst (λ sight. MaySee saved_files sight asked) (sym sees.1) permitted
+  owed clear steps (Some history) asked sees permitted = λ legal clear. subst (λ sight. MaySee saved_files sight asked) (sym sees.1) (permitted (can_be steps history sees.1 legal))

@@ -1,19 +1,18 @@
 -- The parts of a build, and how each of them is refused.
-use Rattle.std.specs.Prelude.{◌≡◌, ◌⊎◌, ℕ, List, Option, Some, None, IfSome}
-use Rattle.inc_base.specs.Meters.{ticked}
+use Rattle.std.specs.Prelude.{◌≡◌, ◌⊎◌, ℕ, Bool, List, Option, Some, None, IfSome}
+use Rattle.inc_base.specs.Meters.{raised}
 use Rattle.inc_base.specs.Outside.{IsReadOut, Rose}
 use Rattle.inc_base.specs.declared.job.Job.{Job}
+use Rattle.inc_fs.specs.Paths.{Text}
 use Rattle.inc_proto.specs.Events.{Steps}
 use Rattle.inc_session.specs.declared.outcome.Outcome.{Outcome}
-use Rattle.inc_session.specs.declared.outcome.Outcome.TheVariants.{Built, DiskFault, Disturbed as DisturbedBy}
-use Rattle.inc_session.specs.Order.{Plan, IsWholePath, IsCutByFault, IsPathSoFar}
-use Rattle.inc_session.specs.Machine.{plan_of}
+use Rattle.inc_session.specs.declared.outcome.Outcome.TheVariants.{Built, Errors, DiskFault, Lost as AllLost, Disturbed as DisturbedBy}
+use Rattle.inc_session.specs.declared.outcome.Used.{Used}
 use Rattle.rs_literal.specs.Literal.{IsLiteral}
-use Rattle.rs_literal.specs.Object.{literal_image}
 use Rattle.inc_cli.specs.declared.status.Status.{Status}
-use Rattle.inc_cli.specs.declared.status.Status.TheVariants.{BadWords, DirectoryFault, SourceFault, OutOfMemory, Disturbed, NotBuilt}
+use Rattle.inc_cli.specs.declared.status.Status.TheVariants.{BadWords, DirectoryFault, SourceFault, OutOfMemory, Lost, Disturbed, NotBuilt}
 use Rattle.inc_cli.specs.Words.{AreRefused}
-use Rattle.inc_cli.specs.Run.{Telling, HasVisited, HasNotBegun, IsDisturbed}
+use Rattle.inc_cli.specs.Run.{Telling, HasVisited, HasNotBegun, IsSoFar, HasBuiltThis, IsCut, HasLostAll, IsDisturbed}
 
 -- why the words give no crate
 abbrev pub FailsWords : Status → List (List ℕ) → Type 0
@@ -35,39 +34,43 @@ FailsText OutOfMemory left before now = Unit {0}
 FailsText status left before now = ⊥
 
 -- a session of this job visited the directory, and its steps are as the statement has it
-pub record Visited (IsEnd : Plan → Steps → Type 0) (job : Job) (number : ℕ) (old new : Telling) : Type 0 where
+pub record Visited (IsEnd : Job → Steps → Type 0) (job : Job) (old new : Telling) : Type 0 where
   pub steps : Steps
   pub visited : HasVisited job steps old new
-  pub ends : IsEnd (plan_of job number) steps
-
--- what is built of a text that prints this number: its image, and its one unit emitted
-pub record IsBuilt (image : List ℕ) (emitted units number : ℕ) : Type 0 where
-  pub image_is : image ≡ literal_image number
-  pub emitted_is : emitted ≡ 1
-  pub units_is : units ≡ 1
+  pub ends : IsEnd job steps
 
 -- it published, and this is what it built
-pub record HasSession (job : Job) (number : ℕ) (image : List ℕ) (emitted units : ℕ) (old new : Telling) (before now : ℕ) : Type 0 where
-  pub visit : Visited IsWholePath job number old new
-  pub built : IsBuilt image emitted units number
-  pub meter : now ≡ ticked before
+pub record HasSession (job : Job) (diags image : Text) (used : Used) (note : Bool) (old new : Telling) (before now : ℕ) : Type 0 where
+  pub visit : Visited (HasBuiltThis diags image used note) job old new
+  pub meter : now ≡ raised before used.units
+
+-- it lost its names, and emitted nothing
+pub record LosesNames (job : Job) (old new : Telling) (before now : ℕ) : Type 0 where
+  pub visit : Visited HasLostAll job old new
+  pub meter : now ≡ before
+
+-- The counts of a directory's faults, and a meter, before and after.
+pub record Counts : Type 0 where
+  pub faults : ℕ
+  pub meter : ℕ
 
 -- why it published nothing
-abbrev pub FailsSession : Status → Job → ℕ → Telling → Telling → ℕ → ℕ → Type 0
-FailsSession DirectoryFault job number old new before now = Visited IsCutByFault job number old new × Rose before now
-FailsSession Disturbed job number old new before now = Visited IsDisturbed job number old new
-FailsSession OutOfMemory job number old new before now = HasNotBegun old new ⊎ Visited IsPathSoFar job number old new
-FailsSession status job number old new before now = ⊥
+abbrev pub FailsSession : Status → Job → Telling → Telling → Counts → Counts → Type 0
+FailsSession DirectoryFault job old new before now = Visited IsCut job old new × Rose before.faults now.faults
+FailsSession Lost job old new before now = LosesNames job old new before.meter now.meter
+FailsSession Disturbed job old new before now = Visited IsDisturbed job old new
+FailsSession OutOfMemory job old new before now = HasNotBegun old new ⊎ Visited IsSoFar job old new
+FailsSession status job old new before now = ⊥
 
--- the outcome is this image, with so many units emitted, of so many
-abbrev pub HasOutcome : Option Outcome → List ℕ → ℕ → ℕ → Type 0
-HasOutcome (Some (Built its_image its_emitted its_units)) image emitted units =
-    (image ≡ its_image) × (emitted ≡ its_emitted) × (units ≡ its_units)
-HasOutcome outcome image emitted units = ⊥
+-- the outcome is this
+abbrev pub HasOutcome : Option Outcome → Text → Text → Used → Bool → Type 0
+HasOutcome outcome diags image used note = outcome ≡ Some (Built diags image used note)
 
 -- the outcome is the status's cause
 abbrev pub FailsOutcome : Option Outcome → Status → Type 0
 FailsOutcome (Some DiskFault) DirectoryFault = Unit {0}
+FailsOutcome (Some (AllLost names)) Lost = Unit {0}
 FailsOutcome (Some (DisturbedBy asked reply)) Disturbed = Unit {0}
+FailsOutcome (Some (Errors diags note)) NotBuilt = Unit {0}
 FailsOutcome None OutOfMemory = Unit {0}
 FailsOutcome outcome status = ⊥

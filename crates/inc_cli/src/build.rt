@@ -1,14 +1,17 @@
 ghost use Rattle.std.specs.Prelude.{◌≡◌, ◌<◌, ◌^◌, false, map, IfOk, IfErr};
 ghost use Rattle.rs_literal.specs.Literal.{IsLiteral};
-ghost use Rattle.inc_cli.specs.Run.{HasPublished, Refuses};
-ghost use Rattle.inc_cli.specs.Parts.{IsText, FailsText, IsBuilt, HasSession, FailsSession, HasOutcome, FailsOutcome};
+ghost use Rattle.inc_session.specs.Made.{outcome_of};
+ghost use Rattle.inc_cli.specs.Run.{HasPublished, Refuses, lines_of};
+ghost use Rattle.inc_cli.specs.Statuses.{built_lines};
+ghost use Rattle.inc_cli.specs.Parts.{IsText, FailsText, HasSession, FailsSession, HasOutcome, FailsOutcome};
 
 use crate::status::Status;
 use crate::visit::visit;
 use crate::words::crate_word;
-use inc_base::{Bytes, Compiler, Job, Meter, ReadFault, Source, VERSION, read_to};
+use inc_base::{Bytes, Compiler, Copied, Job, Meter, ReadFault, Source, VERSION, read_to};
 use inc_dir::Dir;
-use inc_session::{Outcome, Saved, Session};
+use inc_laws::the_invariants_hold;
+use inc_session::{Outcome, Saved, Session, Used, outcomes_have_causes};
 use rs_literal::{TEXT_LIMIT, literal_of};
 use std::alloc::Global;
 
@@ -19,12 +22,14 @@ pub(crate) struct Text {
     number: u64,
 }
 
-/// What a build made: the image, how many units it emitted, and how many the text has.
+/// What a build made: the lines of its diagnostics, the image, how many units it emitted, of how many, and whether
+/// a step of the session's ending was answered by a fault.
 #[derive(Drop)]
 pub(crate) struct Built {
+    pub diags: Bytes,
     pub image: Bytes,
-    pub emitted: u32,
-    pub units: u32,
+    pub used: Used,
+    pub note: bool,
 }
 
 /// Reads the source to its end, or to one byte past the limit on texts.
@@ -46,22 +51,26 @@ fn text_of<S: Source>(alloc: Global, src: &mut S) -> Result<Text, Status>
 
 /// What a session ended with.
 fn built_of(session: Session) -> Result<Built, Status>
-    ensures ok { IfOk result (λ built. HasOutcome session.outcome built.image built.emitted built.units) }
-    ensures err { IfErr result (FailsOutcome session.outcome) }
+    ensures ok { IfOk result (λ built. HasOutcome (outcome_of session) built.diags built.image built.used built.note) }
+    ensures err { IfErr result (FailsOutcome (outcome_of session)) }
 {
     match session.into_outcome() {
         Some(
             Outcome::Built {
+                diags,
                 image,
-                emitted,
-                units,
+                used,
+                note,
             },
         ) => Ok(Built {
+            diags,
             image,
-            emitted,
-            units,
+            used,
+            note,
         }),
+        Some(Outcome::Errors { diags: _, note: _ }) => Err(Status::NotBuilt),
         Some(Outcome::DiskFault) => Err(Status::DirectoryFault),
+        Some(Outcome::Lost(_)) => Err(Status::Lost),
         Some(Outcome::Disturbed(_, _)) => Err(Status::Disturbed),
         None => Err(Status::OutOfMemory),
     }
@@ -78,10 +87,15 @@ fn publish<D: Dir<Saved>>(
     requires free { D.runs dir.old ≡ false }
     requires literal { IsLiteral job.text number }
     ensures free { D.runs dir.new ≡ false }
-    ensures ok { IfOk result (λ built. HasSession job number built.image built.emitted built.units (record { told = D.told dir.old; own = D.own dir.old }) (record { told = D.told dir.new; own = D.own dir.new }) meter.old meter.new) }
-    ensures err { IfErr result (λ status. FailsSession status job number (record { told = D.told dir.old; own = D.own dir.old }) (record { told = D.told dir.new; own = D.own dir.new }) (D.faults dir.old) (D.faults dir.new)) }
+    ensures ok { IfOk result (λ built. HasSession job built.diags built.image built.used built.note (record { told = D.told dir.old; own = D.own dir.old }) (record { told = D.told dir.new; own = D.own dir.new }) meter.old meter.new) }
+    ensures err { IfErr result (λ status. FailsSession status job (record { told = D.told dir.old; own = D.own dir.old }) (record { told = D.told dir.new; own = D.own dir.new })
+        (record { faults = D.faults dir.old; meter = meter.old }) (record { faults = D.faults dir.new; meter = meter.new })) }
 {
-    let Ok(session) = Session::new(alloc, &job, number) else {
+    outcomes_have_causes();
+    let Ok(its) = job.copy() else {
+        return Err(Status::OutOfMemory);
+    };
+    let Ok(session) = Session::new(alloc, its) else {
         return Err(Status::OutOfMemory);
     };
     let mut session = session;
@@ -104,11 +118,12 @@ pub(crate) fn build<S: Source, D: Dir<Saved>>(
     ensures ok { IfOk result (λ built. (published : HasPublished (map (λ word. word.now) words.now)
         (record { left = S.left src.old; source_faults = S.faults src.old; dir = record { told = D.told dir.old; own = D.own dir.old }; dir_faults = D.faults dir.old; meter = meter.old })
         (record { left = S.left src.new; source_faults = S.faults src.new; dir = record { told = D.told dir.new; own = D.own dir.new }; dir_faults = D.faults dir.new; meter = meter.new }))
-        × IsBuilt built.image built.emitted built.units published.visit.number) }
+        × (built_lines built.diags built.used built.note ≡ lines_of published) × (built.image ≡ published.image)) }
     ensures err { IfErr result (λ status. Refuses status (map (λ word. word.now) words.now)
         (record { left = S.left src.old; source_faults = S.faults src.old; dir = record { told = D.told dir.old; own = D.own dir.old }; dir_faults = D.faults dir.old; meter = meter.old })
         (record { left = S.left src.new; source_faults = S.faults src.new; dir = record { told = D.told dir.new; own = D.own dir.new }; dir_faults = D.faults dir.new; meter = meter.new })) }
 {
+    the_invariants_hold();
     let krate = match crate_word(alloc, words) {
         Ok(krate) => krate,
         Err(status) => return Err(status),

@@ -1,16 +1,17 @@
 ghost use Rattle.std.specs.Prelude.{◌≡◌, ◌⊎◌, IfOk, OnOk, OnErr};
 ghost use Rattle.std.specs.Io.KnownBytes.{Appends};
 ghost use Rattle.inc_base.specs.Outside.{AppendsFront, Rose};
-ghost use Rattle.inc_cli.specs.Statuses.{code_of, emitted_line, line_of};
+ghost use Rattle.inc_cli.specs.Statuses.{code_of, built_lines, emitted_line, note_line, line_of};
 ghost use Rattle.inc_cli.specs.Run.{WritesAll, FailsToWrite};
 
 use crate::status::Status;
 use inc_base::{Bytes, Failed, Memory, Sink, write_all};
+use inc_session::Used;
 use itoa::Buffer;
 use std::alloc::Global;
 
 /// The line that says how many units were emitted, of how many.
-pub(crate) fn emitted_line(alloc: Global, emitted: u32, units: u32) -> Result<Bytes, Memory>
+fn emitted_line(alloc: Global, emitted: u32, units: u32) -> Result<Bytes, Memory>
     ensures { IfOk result (λ line. line ≡ emitted_line emitted units) }
 {
     let mut number = Buffer::new();
@@ -22,19 +23,44 @@ pub(crate) fn emitted_line(alloc: Global, emitted: u32, units: u32) -> Result<By
     Ok(line)
 }
 
-/// Writes the line on the units and then the image. After `Failed` the image is begun only where `out`
-/// took the whole line.
+/// The line that says that a step of the session's ending was answered by a fault, or none.
+fn note_line(note: bool) -> &'static [u8]
+    ensures { result.now ≡ note_line note }
+{
+    if note {
+        b"note: collection stopped\n"
+    } else {
+        b""
+    }
+}
+
+/// What a build writes to `out`: the lines of its diagnostics, the one on the units, and the note.
+pub(crate) fn built_lines(
+    alloc: Global,
+    diags: &[u8],
+    used: Used,
+    note: bool,
+) -> Result<Bytes, Memory>
+    ensures { IfOk result (λ lines. lines ≡ built_lines diags.now used note) }
+{
+    let mut lines = Bytes::of(alloc, diags)?;
+    let mut more = emitted_line(alloc, used.emitted, used.units)?;
+    more.append(note_line(note))?;
+    lines.append(more.as_slice())?;
+    Ok(lines)
+}
+
+/// Writes the lines and then the image. After `Failed` the image is begun only where `out` took all lines.
 pub(crate) fn deliver<O: Sink, I: Sink>(
-    line: &[u8],
+    lines: &[u8],
     bytes: &[u8],
     out: &mut O,
     image: &mut I,
 ) -> Result<(), Failed>
-    requires { line.now ≡ emitted_line 1 1 }
-    ensures ok { OnOk result (WritesAll bytes.now (record { out = O.held out.old; out_faults = O.faults out.old; image = I.held image.old; image_faults = I.faults image.old }) (record { out = O.held out.new; out_faults = O.faults out.new; image = I.held image.new; image_faults = I.faults image.new })) }
-    ensures err { OnErr result (FailsToWrite bytes.now (record { out = O.held out.old; out_faults = O.faults out.old; image = I.held image.old; image_faults = I.faults image.old }) (record { out = O.held out.new; out_faults = O.faults out.new; image = I.held image.new; image_faults = I.faults image.new })) }
+    ensures ok { OnOk result (WritesAll lines.now bytes.now (record { out = O.held out.old; out_faults = O.faults out.old; image = I.held image.old; image_faults = I.faults image.old }) (record { out = O.held out.new; out_faults = O.faults out.new; image = I.held image.new; image_faults = I.faults image.new })) }
+    ensures err { OnErr result (FailsToWrite lines.now bytes.now (record { out = O.held out.old; out_faults = O.faults out.old; image = I.held image.old; image_faults = I.faults image.old }) (record { out = O.held out.new; out_faults = O.faults out.new; image = I.held image.new; image_faults = I.faults image.new })) }
 {
-    write_all(out, line)?;
+    write_all(out, lines)?;
     write_all(image, bytes)
 }
 

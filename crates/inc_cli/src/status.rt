@@ -16,6 +16,8 @@ pub enum Status {
     SourceFault,
     /// 6: there is no memory.
     OutOfMemory,
+    /// 7: the session lost each of its names.
+    Lost,
     /// 9: the directory disagrees with the session's own steps.
     Disturbed,
     /// 10: the text isn't of the form that is accepted today.
@@ -34,6 +36,7 @@ impl Status {
             Status::SinkFault => 4,
             Status::SourceFault => 5,
             Status::OutOfMemory => 6,
+            Status::Lost => 7,
             Status::Disturbed => 9,
             Status::NotBuilt => 10,
         }
@@ -50,6 +53,7 @@ impl Status {
             Status::SinkFault => b"",
             Status::SourceFault => b"incc: source fault\n",
             Status::OutOfMemory => b"incc: out of memory\n",
+            Status::Lost => b"incc: lost 8 names\n",
             Status::Disturbed => b"incc: directory disturbed\n",
             Status::NotBuilt => b"incc: not built yet\n",
         }

@@ -1,0 +1,11 @@
+mod Words
+mod Puts
+mod Pieces
+mod Fair
+mod NamingSafe
+mod SavingSafe
+mod EndingSafe
+mod OrderSafe
+mod Parts
+mod Asks
+mod Literals

@@ -1,7 +1,10 @@
+pub mod Compiling
+pub mod Naming
+pub mod Saving
+pub mod Ending
 pub mod Order
-pub mod Machine
-pub mod MachineLaws
-pub mod Published
-pub mod PublishedLaws
+pub mod Reading
+pub mod Ends
+pub mod Made
+pub mod MadeLaws
 pub mod Saves
-pub mod PermittedLaws

@@ -1,21 +1,25 @@
-//! A session as a machine: it asks for its next step, is fed the reply, and ends with an outcome.
+//! A session: it asks for its steps one by one, is fed the replies, and ends with an outcome.
 //!
-//! `inc_base`, `inc_fs`, `inc_names`, `inc_wire`, `inc_proto` and `rs_literal` stand below. The machine
-//! touches no directory; whoever drives it makes its steps. Open `specs/Order.antt` first, for the order
-//! of the steps and the ways in which it ends, and then `specs/Machine.antt`.
+//! `inc_base`, `inc_fs`, `inc_names`, `inc_wire`, `inc_proto`, `inc_laws`, `inc_plan` and `rs_literal` stand
+//! below. A session touches no directory; whoever drives it makes its steps. Its order is a plan: open
+//! `specs/Order.antt` first, and the files that it names for its parts; then `specs/Ends.antt`, which says with
+//! which steps it ends how. The code is a walk through the plan (`specs/Made.antt`).
 #![tactic(auto)]
 
+mod compile;
+mod failing;
 mod laws;
+mod naming;
+mod ops;
 mod outcome;
+mod part;
+mod queue;
 mod saved;
+mod saving;
 mod session;
-mod stage;
+mod task;
 
-pub use laws::{
-    beginning_is_in_order, feeding_comes_to_an_end, feeding_keeps_order,
-    publishing_changes_its_own, steps_are_permitted, unheard_sessions_are_new,
-};
-pub use outcome::Outcome;
+pub use laws::{outcomes_have_causes, steps_are_permitted};
+pub use outcome::{Outcome, Used};
 pub use saved::Saved;
 pub use session::Session;
-pub use stage::Stage;

@@ -1,14 +1,14 @@
 ghost use Rattle.std.specs.Prelude.{◌≡◌, IfOk};
+ghost use Rattle.inc_session.specs.Compiling.{files_in};
 ghost use Rattle.inc_session.specs.Saves.{saved_clear, saved_files};
 
-use crate::session::object_file;
-use inc_base::{Bytes, Job, Label, List, Memory};
+use crate::compile::{Compiled, Made, compile};
+use inc_base::{Bytes, Job, Label, List, Memory, Meter};
 use inc_proto::Content;
-use rs_literal::{literal_of, object_of};
 
-/// What sessions publish (docs/PROTOCOL.md, "What a session may do"): today the root unit's object of a text
-/// of the accepted form, and nothing for any other text. Every list of jobs is clear, since nothing that a
-/// build relies on is hashed yet.
+/// What sessions publish (docs/PROTOCOL.md, "What a session may do"): the files that a job's text compiles to,
+/// and nothing where it has errors. Every list of jobs is clear, since nothing that a build relies on is hashed
+/// yet.
 #[derive(Clone, Copy, Debug)]
 pub struct Saved;
 
@@ -20,16 +20,30 @@ impl Content for Saved {
     fn wanted(&self, job: &Job) -> Result<Option<List<(Label, Bytes)>>, Memory>
         ensures { IfOk result (λ found. found ≡ saved_files job.now) }
     {
-        let Some(number) = literal_of(job.text.as_slice()) else {
-            return Ok(None);
-        };
-        let alloc = job.text.allocator();
-        let name = object_file(alloc)?;
-        let object = object_of(alloc, number)?;
-        let mut files = List::new(alloc);
-        files.push((name, object))?;
-        Ok(Some(files))
+        let mut meter = Meter::new();
+        let Compiled { diags, made } = compile(job.text.allocator(), job, &mut meter)?;
+        drop(diags);
+        Ok(files_of(made))
     }
 
     ghost fewer = { λ some all among clear. tt };
+}
+
+/// The files of what was made.
+fn files_of(made: Option<Made>) -> Option<List<(Label, Bytes)>>
+    ensures { result ≡ files_in made }
+{
+    match made {
+        Some(
+            Made {
+                image,
+                units: _,
+                files,
+            },
+        ) => {
+            drop(image);
+            Some(files)
+        }
+        None => None,
+    }
 }

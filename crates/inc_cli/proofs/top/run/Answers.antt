@@ -1,6 +1,7 @@
-use Rattle.std.proofs.Common.{refl}
+use Rattle.std.proofs.Common.{refl, ap, ◌∙◌}
+use Rattle.inc_cli.specs.Statuses.{built_lines}
 use Rattle.inc_cli.specs.declared.status.Status.TheVariants.{Done, SinkFault, OutOfMemory}
-use Rattle.inc_cli.proofs.Building.{out_of_memory}
+use Rattle.inc_cli.proofs.Building.{out_of_memory, wrote_all, wrote_part}
 use Rattle.inc_cli.proofs.top.run.Goals as goal
 
 pub returns-in_default-clause-ends : goal.returns-in_default-clause-ends
@@ -12,9 +13,11 @@ returns-in_default-clause-ends g c =
 pub returns-in-Ok-deliver-clause-ends : goal.returns-in-Ok-deliver-clause-ends
 returns-in-Ok-deliver-clause-ends g c =
     let built = c.in-Ok.ensures.ok in
-    (Done, c.code.ensures, (built.0, rw (c.as_slice-2.ensures.value, built.1.image_is) at c.in-Ok-deliver.ensures.ok))
+    let lines = c.as_slice-2.ensures.value ∙ c.in-Ok-built_lines.ensures ∙ ap (λ diags. built_lines diags c.in-Ok.built.used c.in-Ok.built.note) c.as_slice.ensures.value ∙ built.1 in
+    (Done, c.code.ensures, (built.0, wrote_all _ _ _ _ _ _ lines (c.as_slice-3.ensures.value ∙ built.2) c.in-Ok-deliver.ensures.ok))
 
 pub returns-clause-ends : goal.returns-clause-ends
 returns-clause-ends g c =
     let built = c.in-Ok.ensures.ok in
-    (SinkFault, c.code-in-Err-deliver.ensures, (built.0, rw (c.as_slice-2.ensures.value, built.1.image_is) at c.in-Err-deliver.ensures.err))
+    let lines = c.as_slice-2.ensures.value ∙ c.in-Ok-built_lines.ensures ∙ ap (λ diags. built_lines diags c.in-Ok.built.used c.in-Ok.built.note) c.as_slice.ensures.value ∙ built.1 in
+    (SinkFault, c.code-in-Err-deliver.ensures, (built.0, wrote_part _ _ _ _ _ _ lines (c.as_slice-3.ensures.value ∙ built.2) c.in-Err-deliver.ensures.err))

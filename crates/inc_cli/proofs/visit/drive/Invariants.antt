@@ -1,5 +1,5 @@
 use Rattle.std.proofs.Common.{◌≡◌, true}
-use Rattle.inc_session.specs.Machine.{left_of}
+use Rattle.inc_session.specs.Made.{left_of}
 use Rattle.inc_cli.proofs.Driving.{Driving}
 use Rattle.inc_cli.proofs.visit.drive.Given as goal
 
@@ -12,4 +12,4 @@ invariant-steps g l = record {
 }
 
 abbrev pub decreases-steps : goal.decreases-steps
-decreases-steps g l = left_of l.session.op l.session.stage
+decreases-steps g l = left_of l.session

@@ -1,0 +1,5 @@
+use Rattle.inc_session.proofs.Asks.{outcome_is}
+use Rattle.inc_session.proofs.session.Session.into_outcome.Goals as goal
+
+pub returns : goal.returns
+returns c = outcome_is c.args.self _ c.ended_by.ensures

@@ -1,0 +1,10 @@
+use Rattle.std.proofs.Common.{subst}
+use Rattle.inc_words.specs.Words.{IsLevel}
+use Rattle.inc_words.proofs.Fronts.{build_rest}
+use Rattle.inc_words.proofs.words.build_words.Goals as goal
+
+pub returns-in_err-level-clause-none : goal.returns-in_err-level-clause-none
+returns-in_err-level-clause-none c =
+    rw c.from_residual-in_err-level.ensures (λ krate root src image level is.
+    c.in_err-level.ensures.none level (subst (λ rest. IsLevel rest level)
+    (build_rest c.in_ok-rest.ensures.some c.in_ok-krate.ensures.some.0 c.in_ok-root.ensures.some.0 c.in_ok-src.ensures.some.0 c.in_ok-image.ensures.some.0 is.spelled) is.level_is))

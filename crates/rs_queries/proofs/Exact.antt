@@ -6,7 +6,7 @@ use Rattle.rs_reach.specs.Laws.{Ends, FindsOnce, FindsReached}
 use Rattle.rs_lines.specs.Lines.{printed, printed_all}
 use Rattle.rs_lines.specs.declared.line.Line.{Line}
 use Rattle.rs_text.specs.Laws.{TextIs}
-use Rattle.rs_text.specs.Text.{IsTextAs, IsTextRefusal, text_of}
+use Rattle.rs_text.specs.Text.{IsTextAs, text_of}
 use Rattle.rs_text.specs.declared.fault.TextFault.{TextFault}
 use Rattle.rs_text.specs.declared.fault.TextFault.TheVariants as text
 use Rattle.rs_units.specs.Units.{units_of}
@@ -31,14 +31,6 @@ module _ (bytes : List ℕ) (F : TextFault → Type 0) (T : Crate → Type 0) wh
     tree = λ other e. (let both : Ok krate ≡ Ok other = sym is ∙ e in let same : krate ≡ other = cc in subst T same h);
   }
 
-  -- a fault of which this is so is that of the text, unless it is so of want of memory
-  pub refused : (f : TextFault) → IsTextRefusal bytes f → F f → (F text.Memory → ⊥) → OfText bytes F T
-  refused (text.Byte at) is h never = of_fault (text.Byte at) is h
-  refused (text.Nesting at) is h never = of_fault (text.Nesting at) is h
-  refused (text.Syntax at) is h never = of_fault (text.Syntax at) is h
-  refused (text.Twice at name) is h never = of_fault (text.Twice at name) is h
-  refused text.Memory is h never = absurd (never h)
-
 module _ {A : Type 0} (bytes : List ℕ) (F : TextFault → A → Type 0) (T : Crate → A → Type 0) where
   -- of one answer alone, where that is so of each fault and each tree
   pub same_answer : ((f : TextFault) (a b : A) → F f a → F f b → a ≡ b) → ((krate : Crate) (a b : A) → T krate a → T krate b → a ≡ b)
@@ -59,9 +51,6 @@ module _ {A : Type 0} (bytes : List ℕ) (F : TextFault → A → Type 0) (T : C
       by (Ok krate) e = (let x = trees krate in (x.0, of_tree bytes (λ g. F g x.0) (λ other. T other x.0) krate e x.1))
 
 -- ---- Diagnostics.
-
-pub no_memory : (out : List ℕ) → SaysFault text.Memory out → ⊥
-no_memory out says = (let bad : None ≡ Some says.line = says.is in cc)
 
 line_there : (bytes : List ℕ) (f : TextFault) → IsTextAs bytes (Err f) → (l : Line) × (fault_line f ≡ Some l)
 line_there bytes (text.Byte at) h = (_, refl)

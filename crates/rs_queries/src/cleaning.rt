@@ -1,9 +1,11 @@
-ghost use Rattle.std.specs.Prelude.{◌≡◌, IfOk, option_and_then};
+ghost use Rattle.std.specs.Prelude.{◌≡◌, ℕ, List, IfOk, option_and_then};
 ghost use Rattle.rs_queries.specs.declared.compiled.Built.{Built};
 ghost use Rattle.rs_queries.specs.Built.{IsClean, clean_of};
+ghost use Rattle.rs_queries.specs.Reading.{IsReading};
 
 use crate::compiled::{Built, CleanBuild, Compiled};
-use crate::compiling::compile;
+use crate::compiling::compile_read;
+use crate::reading::{Reading, read};
 use inc_base::{Bytes, Compiler, Memory, Meter};
 use std::alloc::Global;
 
@@ -12,8 +14,21 @@ use std::alloc::Global;
 pub fn clean(alloc: Global, text: &[u8], compiler: Compiler) -> Result<CleanBuild, Memory>
     ensures { IfOk result (IsClean text.now compiler.level) }
 {
+    let reading = read(alloc, text)?;
+    let build = clean_read(alloc, &reading, compiler)?;
+    Ok(build)
+}
+
+/// The same of a text that was read.
+pub fn clean_read(
+    alloc: Global,
+    reading: &Reading,
+    compiler: Compiler,
+) -> Result<CleanBuild, Memory>
+    ensures { (bytes : List ℕ) → IsReading bytes reading.now → IfOk result (IsClean bytes compiler.level) }
+{
     let mut meter = Meter::new();
-    let compiled = compile(alloc, text, compiler, &mut meter)?;
+    let compiled = compile_read(alloc, reading, compiler, &mut meter)?;
     Ok(clean_of(compiled))
 }
 

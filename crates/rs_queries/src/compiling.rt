@@ -1,9 +1,10 @@
 //! The compiler, by direct calls.
 
-ghost use Rattle.std.specs.Prelude.{◌≡◌, length, map, IfOk};
+ghost use Rattle.std.specs.Prelude.{◌≡◌, ℕ, List, length, map, IfOk};
 ghost use Rattle.std.specs.Option.{option_map};
 ghost use Rattle.inc_base.specs.Meters.{raised};
 ghost use Rattle.rs_queries.specs.Built.{IsCompiled, IsFaultCompiled, IsTreeCompiled, consts_of, emitted, emitted_by, form_of, objects_in, output_of};
+ghost use Rattle.rs_queries.specs.Reading.{IsReading};
 ghost use Rattle.rs_queries.specs.State.{IsItemsCompiled};
 
 use crate::checked::check_tree;
@@ -13,9 +14,10 @@ use crate::forms::{consts_of, forms_of};
 use crate::known::{Known, known_of};
 use crate::objects::objects_in;
 use crate::output::output_of;
+use crate::reading::{Reading, read};
 use inc_base::{Bytes, Compiler, List, Memory, Meter, rises_add_up};
 use rs_names::index;
-use rs_text::{TextFault, read_text};
+use rs_text::TextFault;
 use rs_tree::{Crate, Index, Place, Placed};
 use rs_units::units;
 use std::alloc::Global;
@@ -34,10 +36,25 @@ pub fn compile(
     ensures is { IfOk result (IsCompiled text.now compiler.level) }
     ensures emitted { IfOk result (λ c. meter.new ≡ raised meter.old (emitted c)) }
 {
+    let reading = read(alloc, text)?;
+    let compiled = compile_read(alloc, &reading, compiler, meter)?;
+    Ok(compiled)
+}
+
+/// The same of a text that was read. The meter and `Memory` are as `compile` has them.
+pub fn compile_read(
+    alloc: Global,
+    reading: &Reading,
+    compiler: Compiler,
+    meter: &mut Meter,
+) -> Result<Compiled, Memory>
+    ensures is { (bytes : List ℕ) → IsReading bytes reading.now → IfOk result (IsCompiled bytes compiler.level) }
+    ensures emitted { IfOk result (λ c. meter.new ≡ raised meter.old (emitted c)) }
+{
     rises_add_up();
-    match read_text(alloc, text) {
-        Ok(tree) => compile_tree(alloc, &tree, compiler.level, meter),
-        Err(fault) => compile_fault(alloc, &fault),
+    match reading {
+        Reading::Tree(tree) => compile_tree(alloc, tree, compiler.level, meter),
+        Reading::Fault(fault) => compile_fault(alloc, fault),
     }
 }
 

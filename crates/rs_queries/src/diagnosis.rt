@@ -5,9 +5,9 @@ ghost use Rattle.rs_queries.specs.State.{SaysItems};
 use crate::checked::check_tree;
 use crate::fault::fault_text;
 use crate::known::known_of;
+use crate::reading::{Reading, read};
 use inc_base::{Bytes, Memory};
 use rs_names::index;
-use rs_text::read_text;
 use rs_tree::{Crate, Index, Placed};
 use std::alloc::Global;
 
@@ -19,9 +19,9 @@ use std::alloc::Global;
 pub fn diagnose(alloc: Global, text: &[u8]) -> Result<Bytes, Memory>
     ensures { IfOk result (IsDiagnosis text.now) }
 {
-    match read_text(alloc, text) {
-        Ok(tree) => tree_text(alloc, &tree),
-        Err(fault) => fault_text(alloc, &fault),
+    match read(alloc, text)? {
+        Reading::Tree(tree) => tree_text(alloc, &tree),
+        Reading::Fault(fault) => fault_text(alloc, &fault),
     }
 }
 

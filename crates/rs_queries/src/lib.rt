@@ -22,10 +22,12 @@ mod limit;
 mod objects;
 mod output;
 mod own;
+mod reading;
 
-pub use cleaning::clean;
+pub use cleaning::{clean, clean_read};
 pub use compiled::{Built, CleanBuild, Compiled};
-pub use compiling::compile;
+pub use compiling::{compile, compile_read};
 pub use diagnosis::diagnose;
 pub use laws::{texts_have_one_build, texts_have_one_diagnosis};
-pub use limit::{Limit, over_limit};
+pub use limit::{Limit, over_limit, read_within};
+pub use reading::{Reading, read};

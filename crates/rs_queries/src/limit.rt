@@ -1,12 +1,13 @@
 //! The limits of a text.
 
-ghost use Rattle.std.specs.Prelude.{◌≡◌, IfOk};
+ghost use Rattle.std.specs.Prelude.{◌≡◌, IfOk, IfErr, Some, None};
 ghost use Rattle.std.specs.List.{list_any};
-ghost use Rattle.rs_queries.specs.Limits.{has_many, is_past, over_limit, tree_limit};
+ghost use Rattle.rs_queries.specs.Limits.{has_many, is_past, limit_by, over_limit, tree_limit};
+ghost use Rattle.rs_queries.specs.Reading.{IsReading, what_was_read};
 
+use crate::reading::{Reading, read};
 use inc_base::Memory;
 use rs_lower::is_within_limits;
-use rs_text::{TextFault, read_text};
 use rs_tree::{Crate, Placed};
 use std::alloc::Global;
 
@@ -30,21 +31,45 @@ const MODULES: usize = 256;
 /// The most items.
 const ITEMS: usize = 4_096;
 
-/// The first of the limits, in their order, that a text passes. Modules and items are counted in texts that have a tree; a text of
-/// too many bytes isn't read. `Memory` where there is none for the tree (docs/LANGUAGE.md, "Limits").
+/// The reading of a text that passes no limit, or the first of the limits, in their order, that it passes. Modules and items are
+/// counted in texts that have a tree; a text of too many bytes isn't read. `Memory` where there is none for the tree
+/// (docs/LANGUAGE.md, "Limits").
+pub fn read_within(alloc: Global, text: &[u8]) -> Result<Result<Reading, Limit>, Memory>
+    ensures within { IfOk result (λ r. IfOk r (λ it. IsReading text.now it × (over_limit text.now ≡ None))) }
+    ensures past { IfOk result (λ r. IfErr r (λ limit. over_limit text.now ≡ Some limit)) }
+{
+    if text.len() > BYTES {
+        return Ok(Err(Limit::Text));
+    }
+    let reading = read(alloc, text)?;
+    match limit_of(&reading) {
+        None => Ok(Ok(reading)),
+        Some(limit) => {
+            drop(reading);
+            Ok(Err(limit))
+        }
+    }
+}
+
+/// The first of the limits that a text passes, as `read_within` has them; none where it passes none. `Memory` as there.
 pub fn over_limit(alloc: Global, text: &[u8]) -> Result<Option<Limit>, Memory>
     ensures { IfOk result (λ l. l ≡ over_limit text.now) }
 {
-    if text.len() > BYTES {
-        return Ok(Some(Limit::Text));
-    }
-    match read_text(alloc, text) {
-        Ok(tree) => Ok(tree_limit(&tree)),
-        Err(TextFault::Memory) => Err(Memory),
-        Err(fault) => {
-            drop(fault);
+    match read_within(alloc, text)? {
+        Ok(reading) => {
+            drop(reading);
             Ok(None)
         }
+        Err(limit) => Ok(Some(limit)),
+    }
+}
+
+fn limit_of(reading: &Reading) -> Option<Limit>
+    ensures { result ≡ limit_by (what_was_read reading.now) }
+{
+    match reading {
+        Reading::Tree(tree) => tree_limit(tree),
+        Reading::Fault(_) => None,
     }
 }
 

@@ -1,5 +1,5 @@
 use Rattle.std.proofs.Common.{◌≡◌, ap, ◌∙◌, map, length, refl, ℕ, List, Bool, true, false}
-use Rattle.std.specs.Prelude.{Option, Some, None, if◌then◌else◌}
+use Rattle.std.specs.Prelude.{Some, None, if◌then◌else◌}
 use Rattle.std.specs.Option.{option_map}
 use Rattle.rs_tree.specs.declared.place.Place.{Place}
 use Rattle.rs_lines.specs.Lines.{has_error, printed_all}

@@ -1,0 +1,12 @@
+mod Calls
+mod Errors
+mod Images
+mod Linking
+mod Lists
+mod Lowered
+mod Makes
+mod Members
+mod Names
+mod Objects
+mod Places
+mod Symbols

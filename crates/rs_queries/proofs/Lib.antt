@@ -1,5 +1,5 @@
 mod Emitted
-mod Exact
+pub mod Exact
 mod Tellings
-mod Values
+pub mod Values
 mod Wholes

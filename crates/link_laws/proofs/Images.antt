@@ -21,9 +21,10 @@ use Rattle.rs_units.specs.Units.{units_of}
 use Rattle.rs_queries.specs.declared.compiled.Built.{Built}
 use Rattle.rs_queries.specs.declared.compiled.CleanBuild.{CleanBuild}
 use Rattle.rs_queries.specs.declared.compiled.Compiled.{Compiled}
-use Rattle.rs_queries.specs.Built.{IsClean, IsCompiled, IsTreeCompiled, built_of, clean_of, image_by, output_of, tree_index}
+use Rattle.rs_queries.specs.Built.{IsClean, IsCompiled, IsFaultCompiled, IsTreeCompiled, built_of, clean_of, image_by, output_of, tree_index}
 use Rattle.rs_queries.specs.Diagnosed.{IsDiagnosis, calls_of, dead_line, dead_lines, fault_line, is_among, own_lines, tree_lines}
 use Rattle.rs_queries.specs.Known.{Answered, all_answered, constants_of, items_of, place_of, sigs_of}
+use Rattle.rs_queries.proofs.Exact.{of_fault, of_tree}
 use Rattle.link_laws.specs.Told.{AreLines, AreTreeLines, IsFaultLine, Tells}
 use Rattle.link_laws.proofs.Errors.{has_error_in_order}
 use Rattle.link_laws.proofs.Makes.{Makes, is_wrong, objects}
@@ -83,12 +84,6 @@ module _ (given : Given) where
       by false there = there refl
 
   module _ (texts : TextIs) (trees : TreesAreTidy) (only : (bytes : List ℕ) (level : ℕ) (c d : Compiled) → IsCompiled bytes level c → IsCompiled bytes level d → c ≡ d) (bytes : List ℕ) (level : ℕ) where
-    compiled_tree : (krate : Crate) → text_of bytes ≡ Ok krate → (c : Compiled) → IsTreeCompiled krate level c → IsCompiled bytes level c
-    compiled_tree krate e c h = record {
-      fault = λ f is. absurd (let bad : Err f ≡ Ok krate = sym is ∙ e in cc);
-      tree = λ other is. (let both : Ok krate ≡ Ok other = sym e ∙ is in let same : krate ≡ other = cc in subst (λ k. IsTreeCompiled k level c) same h);
-    }
-
     fault_told : (f : TextFault) (c : Compiled) (ls : List Line) → text_of bytes ≡ Err f → IsCompiled bytes level c → IsFaultLine f ls → Tells (clean_of c) ls
     fault_told f c ls e h lines =
         let its = h.fault f e in
@@ -101,7 +96,7 @@ module _ (given : Given) where
     tree_told : (krate : Crate) (c : Compiled) (ls : List Line) → text_of bytes ≡ Ok krate → IsCompiled bytes level c → AreTreeLines krate ls → Tells (clean_of c) ls
     tree_told krate c ls e h lines =
         let d : Compiled = record { diags = printed_all (tree_lines krate lines.values); units = length (units_of (tree_index krate)); built = built_of krate level lines.values } in
-        let same : c ≡ d = only bytes level c d h (compiled_tree krate e d (record { values = lines.values; are = lines.are; says = refl; units = refl; built = refl })) in
+        let same : c ≡ d = only bytes level c d h (of_tree bytes (λ f. IsFaultCompiled f d) (λ k. IsTreeCompiled k level d) krate e (record { values = lines.values; are = lines.are; says = refl; units = refl; built = refl })) in
         let read : IsTextAs bytes (Ok krate) = subst (IsTextAs bytes) e (texts.is bytes) in
         let tidy = trees read.tokens krate read.holds in
         record {
@@ -122,17 +117,8 @@ pub lines_there : ((bytes : List ℕ) → (out : List ℕ) × IsDiagnosis bytes 
 lines_there is bytes = by (text_of bytes) refl
   where
     by : (r : Result Crate TextFault) → text_of bytes ≡ r → (ls : List Line) × AreLines bytes ls
-    by (Err f) e = (let its = (is bytes).1.fault f e in (
-      its.line ∷ [],
-      record {
-        fault = λ g there. (let both : Err f ≡ Err g = sym e ∙ there in let same : f ≡ g = cc in record { line = its.line; is = ap fault_line (sym same) ∙ its.is; alone = refl });
-        tree = λ krate there. absurd (let bad : Err f ≡ Ok krate = sym e ∙ there in cc);
-      },
-    ))
-    by (Ok krate) e = (let its = (is bytes).1.tree krate e in (
-      tree_lines krate its.values,
-      record {
-        fault = λ f there. absurd (let bad : Ok krate ≡ Err f = sym e ∙ there in cc);
-        tree = λ other there. (let both : Ok krate ≡ Ok other = sym e ∙ there in let same : krate ≡ other = cc in subst (λ k. AreTreeLines k (tree_lines krate its.values)) same (record { values = its.values; are = its.are; lines = refl }));
-      },
-    ))
+    by (Err f) e = (let its = (is bytes).1.fault f e in (its.line ∷ [], of_fault bytes (λ g. IsFaultLine g (its.line ∷ [])) (λ krate. AreTreeLines krate (its.line ∷ [])) f e (record { line = its.line; is = its.is; alone = refl })))
+    by (Ok krate) e =
+        (let its = (is bytes).1.tree krate e in
+        let ls = tree_lines krate its.values in
+        (ls, of_tree bytes (λ f. IsFaultLine f ls) (λ k. AreTreeLines k ls) krate e (record { values = its.values; are = its.are; lines = refl })))

@@ -1,0 +1,5 @@
+pub mod Named
+pub mod Fresh
+pub mod Steps
+pub mod Places
+pub mod Fits

@@ -1,0 +1,4 @@
+pub mod Readings
+pub mod Names
+pub mod Steps
+pub mod Plans

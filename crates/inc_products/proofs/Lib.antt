@@ -1,3 +1,4 @@
 mod Places
 mod Planning
 mod Labels
+mod Fronting

@@ -1,15 +1,13 @@
 -- The files of a session: what they are called, and what stands in each.
-use Rattle.std.specs.Prelude.{◌≡◌, ℕ, ◌+◌, ◌==◌, ◌&&◌, ◌||◌, Bool, nat_le, cond, List, [], ◌∷◌, ◌++◌, codes, filter, slice_get, Some, unwrap_or}
+use Rattle.std.specs.Prelude.{ℕ, ◌+◌, ◌==◌, ◌&&◌, Bool, nat_le, cond, List, [], ◌∷◌, ◌++◌, codes, filter, slice_get, unwrap_or}
 use Rattle.std.specs.Option.{option_map_or}
 use Rattle.std.specs.Ordering.{nat_cmp}
 use Rattle.std.specs.Map.{lookup}
 use Rattle.std.specs.BTreeMap.{is_at}
-use Rattle.sha2.specs.Sha256.{sha256}
 use Rattle.inc_wire.specs.Forms.{list_form, number_form, text_form}
 use Rattle.inc_wire.specs.declared.header.Header.{Header}
 use Rattle.inc_graph.specs.declared.node.Node.{Node}
 use Rattle.inc_graph.specs.Forms.{cache_form, file_form, graph_form}
-use Rattle.inc_graph.specs.Graphs.{positions_of}
 use Rattle.inc_products.specs.declared.part.Part.{Part}
 use Rattle.inc_products.specs.declared.part.Part.TheVariants as part
 use Rattle.inc_products.specs.Named.{with_value}
@@ -96,21 +94,3 @@ files_of h nodes values = by_names (bytes_of h nodes values) nodes
 -- the files that a graph demands, by their names
 abbrev pub demanded : List Node → List (List ℕ × Part)
 demanded nodes = by_names (λ part. part) nodes
-
--- the positions of the nodes whose kinds pass, from a position on
-abbrev pub positions_from : (ℕ → Bool) → ℕ → List Node → List ℕ
-positions_from passes i [] = []
-positions_from passes i (n ∷ ns) = cond (passes n.query.kind) (i ∷ positions_from passes (i + 1) ns) (positions_from passes (i + 1) ns)
-
-abbrev pub is_saved_kind : ℕ → Bool
-is_saved_kind kind = is_kept_kind kind || is_object_kind kind
-
--- values are exactly of the nodes whose kinds are kept
-abbrev pub AreSaved : List Node → List Value → Type 0
-AreSaved nodes values = positions_of values ≡ positions_from is_saved_kind 0 nodes
-
--- a value has its node's print
-pub record HasPrint (nodes : List Node) (value : Value) : Type 0 where
-  pub node : Node
-  pub there : slice_get nodes value.0 ≡ Some node
-  pub print : sha256 value.1 ≡ node.print.0

@@ -5,6 +5,7 @@
 #![tactic(auto)]
 
 mod change;
+mod front;
 mod laws;
 mod named;
 mod names;
@@ -12,6 +13,7 @@ mod part;
 mod saved;
 
 pub use change::{Change, plan};
+pub use front::{Front, read_front};
 pub use laws::plans_turn_old_into_wanted;
 pub use named::{FileSet, Named};
 pub use names::{cache_name, graph_name, object_name, products_name};

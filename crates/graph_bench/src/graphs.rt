@@ -41,7 +41,7 @@ fn count_of(alloc: Global, bytes: &[u8]) -> usize {
 
 fn least_read<R: Runtime>(rt: &R, alloc: Global, bytes: &[u8]) -> io::Result<Duration> {
     let mut least = Duration::MAX;
-    for _ in 0..5 {
+    for _ in 0..3 {
         let start = Instant::now(rt)?;
         let _count = count_of(alloc, bytes);
         least = least.min(start.elapsed(rt)?);
@@ -51,7 +51,7 @@ fn least_read<R: Runtime>(rt: &R, alloc: Global, bytes: &[u8]) -> io::Result<Dur
 
 fn least_written<R: Runtime>(rt: &R, alloc: Global, nodes: &Graph) -> io::Result<Duration> {
     let mut least = Duration::MAX;
-    for _ in 0..5 {
+    for _ in 0..3 {
         let start = Instant::now(rt)?;
         drop(bytes_of(alloc, nodes));
         least = least.min(start.elapsed(rt)?);

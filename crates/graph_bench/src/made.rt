@@ -4,7 +4,7 @@ ghost use Rattle.std.specs.Prelude.{◌≡◌, IfOk};
 
 use inc_base::{Bytes, Compiler, List, Memory, Name};
 use inc_graph::{Cache, Graph, Node, Query};
-use inc_wire::{Header, print_of};
+use inc_wire::{Header, print_of, put_number, put_text};
 use std::alloc::Global;
 
 /// The header of crate `k`.
@@ -30,28 +30,44 @@ fn numbered(alloc: Global, number: u32) -> Result<Bytes, Memory> {
     Bytes::of(alloc, text.as_bytes())
 }
 
-fn node(alloc: Global, kind: u8, number: u32, reads: List<u32>) -> Result<Node, Memory> {
-    let empty = Bytes::new(alloc);
-    let name = numbered(alloc, number)?;
+/// A node of kind 10 about this module.
+fn unit(module: Bytes, value: &Bytes) -> Node {
+    let alloc = module.allocator();
+    Node {
+        query: Query {
+            kind: 10,
+            module,
+            name: Bytes::new(alloc),
+        },
+        print: print_of(value.as_slice()),
+        reads: List::new(alloc),
+    }
+}
+
+/// A node of another kind about this name, whose value is the name.
+fn node(kind: u8, name: Bytes, reads: List<u32>) -> Node {
     let print = print_of(name.as_slice());
-    let query = if kind == 10 {
-        Query {
+    Node {
+        query: Query {
             kind,
-            module: name,
-            name: empty,
-        }
-    } else {
-        Query {
-            kind,
-            module: empty,
+            module: Bytes::new(name.allocator()),
             name,
-        }
-    };
-    Ok(Node {
-        query,
+        },
         print,
         reads,
-    })
+    }
+}
+
+/// An object of no function, whose unit's text has so many bytes.
+fn object(alloc: Global, len: usize) -> Result<Bytes, Memory> {
+    let filled = Vec::from_elem(alloc, b'x', len)?;
+    let text = Bytes::of(alloc, filled.as_slice())?;
+    let mut bytes = Bytes::new(alloc);
+    put_number(&mut bytes, 4, 0x494e_434f)?;
+    put_number(&mut bytes, 2, 1)?;
+    put_text(&mut bytes, text.as_slice())?;
+    put_number(&mut bytes, 4, 0)?;
+    Ok(bytes)
 }
 
 /// The ten positions from one on, fewer where that many aren't there.
@@ -71,24 +87,24 @@ pub fn graph(alloc: Global, count: u32) -> Result<Graph, Memory> {
     let mut nodes = List::new(alloc);
     let items = count / 3;
     for number in 0..items {
-        nodes.push(node(alloc, 2, number, List::new(alloc))?)?;
+        nodes.push(node(2, numbered(alloc, number)?, List::new(alloc)))?;
     }
     for number in items..count {
         let first = number % items.max(1);
         let reads = ten_from(alloc, first, items)?;
-        nodes.push(node(alloc, 5, number, reads)?)?;
+        nodes.push(node(5, numbered(alloc, number)?, reads))?;
     }
     Ok(nodes)
 }
 
-/// A graph of 256 units, whose objects' values have so many bytes each.
+/// A graph of 256 units, whose objects have about so many bytes each.
 pub fn units(alloc: Global, len: usize) -> Result<(Graph, Cache), Memory> {
     let mut nodes = List::new(alloc);
     let mut values = List::new(alloc);
     for number in 0..256u32 {
-        nodes.push(node(alloc, 10, number, List::new(alloc))?)?;
-        let value = Vec::from_elem(alloc, b'x', len)?;
-        values.push((number, Bytes::of(alloc, value.as_slice())?))?;
+        let value = object(alloc, len)?;
+        nodes.push(unit(numbered(alloc, number)?, &value))?;
+        values.push((number, value))?;
     }
     Ok((nodes, values))
 }

@@ -1,6 +1,6 @@
 //! Times graphs and the files of sessions (docs/PERFORMANCE.md, "Graphs and saved files").
 //!
-//! Standard output gets what was made, standard error how long it took, as the least of five runs. Open `src/made.rt`
+//! Standard output gets what was made, standard error how long it took, as the least of three runs. Open `src/made.rt`
 //! first.
 #![tactic(auto)]
 

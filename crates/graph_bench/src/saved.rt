@@ -3,7 +3,7 @@
 use crate::made::{header, units};
 use inc_base::Memory;
 use inc_graph::{Cache, Graph, has_order, is_graph};
-use inc_products::{FileSet, files_of, plan};
+use inc_products::{FileSet, Start, files_of, plan, read_files};
 use inc_wire::print_of;
 use std::alloc::Global;
 use std::io;
@@ -45,7 +45,7 @@ fn least_made<R: Runtime>(
     values: &Cache,
 ) -> io::Result<Duration> {
     let mut least = Duration::MAX;
-    for _ in 0..5 {
+    for _ in 0..3 {
         let start = Instant::now(rt)?;
         drop(files(alloc, nodes, values));
         least = least.min(start.elapsed(rt)?);
@@ -53,9 +53,57 @@ fn least_made<R: Runtime>(
     Ok(least)
 }
 
+/// How many values a set is read as, 0 where it is read as nothing whole.
+fn count_of(alloc: Global, files: FileSet) -> usize {
+    match read(alloc, files) {
+        Ok(Start::Whole(nodes, values)) => {
+            drop(nodes);
+            let count = values.len();
+            drop(values);
+            count
+        }
+        Ok(Start::OtherCompiler) => 0,
+        Ok(Start::Damaged(name)) => {
+            drop(name);
+            0
+        }
+        Err(_) => 0,
+    }
+}
+
+fn read(alloc: Global, files: FileSet) -> Result<Start, Memory> {
+    match header(alloc) {
+        Ok(header) => {
+            let start = read_files(&header, files);
+            drop(header);
+            start
+        }
+        Err(refused) => {
+            drop(files);
+            Err(refused)
+        }
+    }
+}
+
+fn least_read<R: Runtime>(
+    rt: &R,
+    alloc: Global,
+    nodes: &Graph,
+    values: &Cache,
+) -> io::Result<Duration> {
+    let mut least = Duration::MAX;
+    for _ in 0..3 {
+        let set = files(alloc, nodes, values);
+        let start = Instant::now(rt)?;
+        let _count = count_of(alloc, set);
+        least = least.min(start.elapsed(rt)?);
+    }
+    Ok(least)
+}
+
 fn least_plan<R: Runtime>(rt: &R, old: &FileSet, wanted: &FileSet) -> io::Result<Duration> {
     let mut least = Duration::MAX;
-    for _ in 0..5 {
+    for _ in 0..3 {
         let start = Instant::now(rt)?;
         let _changes = changes(old, wanted);
         least = least.min(start.elapsed(rt)?);
@@ -73,7 +121,7 @@ fn print_all(values: &Cache) -> u8 {
 
 fn least_print<R: Runtime>(rt: &R, values: &Cache) -> io::Result<Duration> {
     let mut least = Duration::MAX;
-    for _ in 0..5 {
+    for _ in 0..3 {
         let start = Instant::now(rt)?;
         let _all = print_all(values);
         least = least.min(start.elapsed(rt)?);
@@ -82,7 +130,7 @@ fn least_print<R: Runtime>(rt: &R, values: &Cache) -> io::Result<Duration> {
 }
 
 /// Prints how many files there are for 256 units with so many megabytes of objects, how many changes make them and keep
-/// them, and how long all that took, beside the prints of the objects alone.
+/// them, how many values are read of them, and how long all that took, beside the prints of the objects alone.
 pub fn measure<R: Runtime>(rt: &R, alloc: Global, size: u32) -> io::Result<()> {
     match units(alloc, size as usize * 4_096) {
         Ok((nodes, values)) => {
@@ -110,13 +158,20 @@ fn told<R: Runtime>(
     let count = set.len();
     let all = changes(&empty, &set);
     let none = changes(&set, &set);
-    println!(rt; "{size} MiB: {count} files, {all} changes to make them, {none} to keep them")?;
+    drop(set);
+    let read = count_of(alloc, files(alloc, nodes, values));
+    println!(rt;
+        "{size} MiB: {count} files, {all} changes to make them, {none} to keep them, {read} values read"
+    )?;
+    let set = files(alloc, nodes, values);
     let made = least_made(rt, alloc, nodes, values)?.as_micros();
     let fresh = least_plan(rt, &empty, &set)?.as_micros();
     let same = least_plan(rt, &set, &set)?.as_micros();
+    drop(set);
+    let read = least_read(rt, alloc, nodes, values)?.as_micros();
     let print = least_print(rt, values)?.as_micros();
     eprintln!(rt;
-        "{size} MiB: made in {made} us, planned afresh in {fresh} us, against itself in {same} us, prints in {print} us"
+        "{size} MiB: made in {made} us, read in {read} us, planned afresh in {fresh} us, against itself in {same} us, prints in {print} us"
     )?;
     Ok(())
 }

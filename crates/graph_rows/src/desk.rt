@@ -4,6 +4,7 @@ ghost use Rattle.std.specs.Prelude.{◌≡◌, IfOk, IfSome};
 
 use crate::files::{found, told_files, told_plan};
 use crate::graph::{header, node, told_cache, told_graph};
+use crate::starts::{Change, told_bits, told_changed, told_start};
 use crate::words::{bytes, printed, text, word};
 use inc_base::{Bytes, Label, List, Memory};
 use inc_graph::{Cache, Graph, has_order, is_graph};
@@ -35,7 +36,8 @@ impl Desk {
 
     /// Does what a line says, and answers what is asked: `node` adds a node with its value; `files` makes the files of
     /// all, as the wanted set; `bytes`, `graph` and `cache` tell of a wanted file, `cut` and `more` of one without its last byte or
-    /// with a byte behind it; `read-graph` and `read-cache` tell of bytes; `old` and `wanted` put a file, `clear` begins anew, and `plan` and `stay`
+    /// with a byte behind it; `start` tells what the wanted set is read as at a level, and the words that begin so what it is read as at level 1 once a file
+    /// of it is changed; `read-graph` and `read-cache` tell of bytes; `old` and `wanted` put a file, `clear` begins anew, and `plan` and `stay`
     /// tell what turns the old set, or the wanted one, into the wanted one.
     pub fn told(&mut self, line: &str) -> Result<Option<String>, Memory> {
         let alloc = self.alloc;
@@ -50,6 +52,15 @@ impl Desk {
             "old" => put(alloc, &mut self.old, &words),
             "wanted" => put(alloc, &mut self.wanted, &words),
             "plan" => Ok(Some(told_plan(alloc, &self.old, &self.wanted)?)),
+            "start" => Ok(Some(told_start(alloc, level(&words), &self.wanted)?)),
+            "start-with" => {
+                let file = bytes(alloc, &words, 2)?;
+                start_changed(alloc, &self.wanted, &words, Change::With(&file))
+            }
+            "start-without" => start_changed(alloc, &self.wanted, &words, Change::Without),
+            "start-cut" => start_changed(alloc, &self.wanted, &words, Change::Cut),
+            "start-more" => start_changed(alloc, &self.wanted, &words, Change::More),
+            "start-bits" => start_bits(alloc, &self.wanted, &words),
             "stay" => Ok(Some(told_plan(alloc, &self.wanted, &self.wanted)?)),
             "read-graph" => Ok(Some(told_graph(alloc, bytes(alloc, &words, 1)?.as_slice())?)),
             "read-cache" => Ok(Some(told_cache(alloc, bytes(alloc, &words, 1)?.as_slice())?)),
@@ -91,7 +102,7 @@ impl Desk {
 
 /// The files of nodes and values, or None where the nodes are no graph's.
 fn made(alloc: Global, nodes: &Graph, values: &Cache) -> Result<Option<FileSet>, Memory> {
-    match header(alloc)? {
+    match header(alloc, 1)? {
         Some(header) => {
             let files = made_by(alloc, &header, nodes, values);
             drop(header);
@@ -124,6 +135,33 @@ fn put(alloc: Global, files: &mut FileSet, words: &[&str]) -> Result<Option<Stri
         }
         None => Ok(None),
     }
+}
+
+/// The level of a word, 1 where it is none.
+fn level(words: &[&str]) -> u8 {
+    match word(words, 1).parse::<u8>() {
+        Ok(level) => level,
+        Err(_) => 1,
+    }
+}
+
+/// What the set is read as once the file that the words name is changed.
+fn start_changed(
+    alloc: Global,
+    files: &FileSet,
+    words: &[&str],
+    change: Change,
+) -> Result<Option<String>, Memory> {
+    match label(alloc, words)? {
+        Some(name) => Ok(Some(told_changed(alloc, files, &name, change)?)),
+        None => Ok(None),
+    }
+}
+
+/// What the set is read as once a bit of the file that the words name is changed.
+fn start_bits(alloc: Global, files: &FileSet, words: &[&str]) -> Result<Option<String>, Memory> {
+    let name = label(alloc, words)?;
+    Ok(Some(told_bits(alloc, files, &name)?))
 }
 
 fn label(alloc: Global, words: &[&str]) -> Result<Option<Label>, Memory> {

@@ -9,8 +9,8 @@ use inc_wire::{Header, print_of};
 use std::alloc::Global;
 use std::fmt::Write;
 
-/// The header of crate `k`, by version 1 at level 1.
-pub fn header(alloc: Global) -> Result<Option<Header>, Memory>
+/// The header of crate `k`, by version 1 at level 0, or at level 1 where another is named.
+pub fn header(alloc: Global, level: u8) -> Result<Option<Header>, Memory>
     ensures { IfOk result (λ found. IfSome found (λ h. h.format ≡ 1)) }
 {
     match Name::of(alloc, b"k")? {
@@ -18,7 +18,7 @@ pub fn header(alloc: Global) -> Result<Option<Header>, Memory>
             format: 1,
             compiler: Compiler {
                 version: 1,
-                level: 1,
+                level: if level == 0 { 0 } else { 1 },
             },
             krate,
         })),
@@ -95,7 +95,8 @@ pub fn told_cache(alloc: Global, bytes: &[u8]) -> Result<String, Memory> {
     }
 }
 
-fn told_values(alloc: Global, values: &Cache) -> Result<String, Memory> {
+/// At which positions values stand.
+pub fn told_values(alloc: Global, values: &Cache) -> Result<String, Memory> {
     let mut told = String::from_str(alloc, "values at")?;
     for value in values.as_slice() {
         let at = value.0;

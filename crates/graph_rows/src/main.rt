@@ -8,6 +8,7 @@
 mod desk;
 mod files;
 mod graph;
+mod starts;
 mod words;
 
 use desk::Desk;

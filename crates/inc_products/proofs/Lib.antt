@@ -2,3 +2,11 @@ mod Places
 mod Planning
 mod Labels
 mod Fronting
+mod Walking
+mod Matching
+mod Naming
+mod Saving
+mod Ordering
+mod Reading
+mod Whole
+mod Inverse

@@ -55,7 +55,7 @@ module _ {K V : Type 0} (order : K → K → Ordering) (total : IsTotalOrder ord
       let rest = place_is xs i (omega (arith, le)) (λ k d lo hi. p.0 (suc k) d (omega arith) (omega (arith, hi)), λ k d lo hi. p.1 (suc k) d (omega (arith, lo)) (omega (arith, hi))) in
       ap suc rest ∙ sym (ap (λ b. cond b (suc (place_in order key xs)) 0) first)
 
-  none_there : (xs : List (K × V)) → AllByRecursion (λ y. order key y ≡ Less) (keys_of xs) → lookup (is_at (order key)) xs ≡ None
+  pub none_there : (xs : List (K × V)) → AllByRecursion (λ y. order key y ≡ Less) (keys_of xs) → lookup (is_at (order key)) xs ≡ None
   none_there [] a = refl
   none_there (x ∷ xs) a = ap (λ r. cond (is_eq r) (Some x.1) (lookup (is_at (order key)) xs)) a.0 ∙ none_there xs a.1
 

@@ -52,7 +52,7 @@ fn read_graph(alloc: Global, want: &Header, bytes: &[u8]) -> Result<Front, Memor
 }
 
 /// Whether the bytes begin with this header.
-fn begins_with(alloc: Global, want: &Header, bytes: &[u8]) -> Result<bool, Memory>
+pub(crate) fn begins_with(alloc: Global, want: &Header, bytes: &[u8]) -> Result<bool, Memory>
     requires { want.now.format ≡ 1 }
     ensures is { IfOk result (BeginsWith want.now bytes.now) }
     ensures header { IfOk result (λ begins. IsFileHeader want.now) }

@@ -190,7 +190,7 @@ fn kind_at(nodes: &[Node], at: u32) -> u8
 }
 
 /// The bytes of the list of the units' files.
-fn encode_products(h: &Header, g: &Graph) -> Result<Bytes, Memory>
+pub(crate) fn encode_products(h: &Header, g: &Graph) -> Result<Bytes, Memory>
     requires header { h.now.format ≡ 1 }
     requires graph { IsGraph g.now }
     ensures { IfOk result (λ bytes. bytes ≡ file_form products_form (h.now, products_of g.now)) }

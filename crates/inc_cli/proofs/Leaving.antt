@@ -8,20 +8,22 @@ use Rattle.inc_fs.specs.Paths.{Text}
 use Rattle.inc_fs.specs.Readings.{bytes_of}
 use Rattle.inc_fs.specs.State.{State, folder_at, IsIn}
 use Rattle.inc_fs.specs.declared.op.Op.TheVariants.{Close}
-use Rattle.inc_laws.specs.Invariants.{NamesOnce, FinalisedComplete, NewestStands}
-use Rattle.inc_laws.specs.Parts.{HoldsSet, IsNamed}
-use Rattle.inc_laws.specs.Readings.{head_of, jobs_of, names_of, sites_of, site_of}
-use Rattle.inc_laws.specs.Readings.Site.{Out}
+use Rattle.inc_fs.specs.declared.op.Op.TheVariants.{Draw}
+use Rattle.inc_fs.specs.declared.op.Reply.TheVariants.{Drawn}
+use Rattle.inc_laws.specs.Invariants.{NamesOnce, HeldExclusively, FinalisedComplete, NewestStands}
+use Rattle.inc_laws.specs.Parts.{HoldsSet, IsNamed, IsWhose}
+use Rattle.inc_laws.specs.Readings.{draws, head_of, jobs_of, names_of, sites_of, site_of}
+use Rattle.inc_laws.specs.Readings.Site.{At, Gone, Out}
 use Rattle.inc_names.specs.declared.session.SessionName.{SessionName}
-use Rattle.inc_names.specs.Entries.{final_text}
-use Rattle.inc_names.specs.EntryLaws.{same_final_name}
+use Rattle.inc_names.specs.Entries.{working_text, final_text}
+use Rattle.inc_names.specs.EntryLaws.{same_final_name, same_working_text, working_is_no_final}
 use Rattle.inc_proto.specs.declared.event.Event.{Event}
 use Rattle.inc_proto.specs.declared.event.Event.TheVariants.{Begin, Did, Left}
 use Rattle.inc_proto.specs.Events.{Steps, did, job_of, latest}
 use Rattle.inc_proto.specs.Files.{IsSet}
 use Rattle.inc_proto.specs.Growth.{IsOfOther, GrowsBy, TellsBy, AddsOne}
 use Rattle.inc_proto.specs.GrowthLaws.{of_other, latest_own}
-use Rattle.inc_proto.specs.Views.{dir, dir_after}
+use Rattle.inc_proto.specs.Views.{name, dir, dir_after}
 use Rattle.inc_session.specs.Ends.{HasBuilt}
 use Rattle.inc_session.specs.Saves.{IsLegalHere, saved_files}
 use Rattle.inc_session.specs.declared.outcome.Used.{Used}
@@ -97,3 +99,41 @@ module _ (history : List Event) (F : State) (names : NamesOnce history F) (compl
       | inr newer ↦ inr newer
     ];
   }
+
+-- ---- The directory of a session that ended with errors.
+
+-- a session's name is one that it drew
+pub named_in : (steps : Steps) (n : SessionName) → name steps ≡ Some n → IsIn (draws steps) n
+named_in [] n is = absurd (cc)
+named_in ((Draw, Drawn moment random) ∷ steps) n is = inl (cc)
+named_in (step ∷ steps) n is = named_in steps n is
+
+-- where it was removed, none stands under its working name
+module _ (history : List Event) (F : State) (names : NamesOnce history F) (held : HeldExclusively history F)
+    (own : ℕ) (krate : Text) (its : SessionName) (drew : IsIn (names_of history own) its) (gone : sites_of history own ≡ Gone) where
+  -- a name that it drew is nobody else's
+  nobody : (who : ℕ) → IsIn (names_of history who) its → sites_of history who ≡ Gone
+  nobody who drawn = ap (sites_of history) (names.drawn.once who own its drawn drew) ∙ gone
+
+  of_nobody : IsWhose (sites_of history) krate (working_text its) → ⊥
+  of_nobody (who, inl at) =
+      let named : IsNamed (jobs_of history) (names_of history) who (At krate (working_text its)) = subst (IsNamed (jobs_of history) (names_of history) who) at (names.own_names who) in
+      let same : named.1 ≡ its = sym (same_working_text its named.1 named.5) in
+      let none = nobody who (head_in (names_of history who) its (named.4 ∙ ap Some same)) in
+      cc
+  of_nobody (who, inr (inl out)) =
+      let named : IsNamed (jobs_of history) (names_of history) who (Out krate (working_text its)) = subst (IsNamed (jobs_of history) (names_of history) who) out (names.own_names who) in
+      working_is_no_final its named.1 (job_hash_of named.0) named.5
+  of_nobody (who, inr (inr back)) =
+      let named : IsNamed (jobs_of history) (names_of history) who (Out krate (final_text back.0 back.1)) = subst (IsNamed (jobs_of history) (names_of history) who) back.3 (names.own_names who) in
+      let same : named.1 ≡ its = sym (same_final_name back.0 named.1 back.1 (job_hash_of named.0) named.5) ∙ sym (same_working_text its back.0 back.2) in
+      let none = nobody who (head_in (names_of history who) its (named.4 ∙ ap Some same)) in
+      let out = back.3 in
+      cc
+
+  pub is_gone : folder_at F krate (working_text its) ≡ None
+  is_gone = by (folder_at F krate (working_text its)) refl
+    where
+      by : (found : Option (List (Text × ℕ))) → folder_at F krate (working_text its) ≡ found → folder_at F krate (working_text its) ≡ None
+      by None is = is
+      by (Some folder) is = absurd (of_nobody (held.whose krate (working_text its) folder is))

@@ -1,7 +1,5 @@
 pub mod Driving
 pub mod Seeing
-pub mod Nine
-pub mod Texts
 pub mod Visiting
 pub mod Publishing
 pub mod Leaving

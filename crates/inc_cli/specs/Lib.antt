@@ -1,6 +1,4 @@
 pub mod Statuses
-pub mod Words
-pub mod Places
 pub mod Run
 pub mod Visits
 pub mod Parts

@@ -1,11 +1,15 @@
 ghost use Rattle.std.specs.Prelude.{◌≡◌};
-ghost use Rattle.inc_cli.specs.Statuses.{code_of, line_of};
+ghost use Rattle.inc_cli.specs.Statuses.{code_of, limit_line, line_of};
+
+use rs_queries::Limit;
 
 /// How a top call ends (docs/ARCHITECTURE.md, "Statuses").
 #[derive(Clone, Copy, Debug, PartialEq, Eq)]
 pub enum Status {
     /// 0: done.
     Done,
+    /// 1: the text has errors.
+    Errors,
     /// 2: the words aren't accepted.
     BadWords,
     /// 3: the directory failed before the session was published.
@@ -18,10 +22,10 @@ pub enum Status {
     OutOfMemory,
     /// 7: the session lost each of its names.
     Lost,
+    /// 8: the text passes this limit, and none before it.
+    OverLimit(Limit),
     /// 9: the directory disagrees with the session's own steps.
     Disturbed,
-    /// 10: the text isn't of the form that is accepted today.
-    NotBuilt,
 }
 
 impl Status {
@@ -31,14 +35,15 @@ impl Status {
     {
         match self {
             Status::Done => 0,
+            Status::Errors => 1,
             Status::BadWords => 2,
             Status::DirectoryFault => 3,
             Status::SinkFault => 4,
             Status::SourceFault => 5,
             Status::OutOfMemory => 6,
             Status::Lost => 7,
+            Status::OverLimit(_) => 8,
             Status::Disturbed => 9,
-            Status::NotBuilt => 10,
         }
     }
 
@@ -48,14 +53,25 @@ impl Status {
     {
         match self {
             Status::Done => b"",
+            Status::Errors => b"",
             Status::BadWords => b"incc: bad words\n",
             Status::DirectoryFault => b"incc: directory fault\n",
             Status::SinkFault => b"",
             Status::SourceFault => b"incc: source fault\n",
             Status::OutOfMemory => b"incc: out of memory\n",
             Status::Lost => b"incc: lost 8 names\n",
+            Status::OverLimit(limit) => limit_line(limit),
             Status::Disturbed => b"incc: directory disturbed\n",
-            Status::NotBuilt => b"incc: not built yet\n",
         }
+    }
+}
+
+fn limit_line(limit: Limit) -> &'static [u8]
+    ensures { result.now ≡ limit_line limit }
+{
+    match limit {
+        Limit::Text => b"incc: limit text\n",
+        Limit::Modules => b"incc: limit modules\n",
+        Limit::Items => b"incc: limit items\n",
     }
 }

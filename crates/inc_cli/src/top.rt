@@ -3,21 +3,20 @@ ghost use Rattle.inc_cli.specs.declared.status.Status.{Status};
 ghost use Rattle.inc_cli.specs.Statuses.{code_of};
 ghost use Rattle.inc_cli.specs.Run.{Ends};
 
-use crate::build::{Built, build};
-use crate::output::{built_lines, deliver, refuse};
-use crate::status::Status;
-use inc_base::{Failed, Memory, Meter, Sink, Source};
+use crate::command::answer;
+use crate::output::{refuse, write_answer};
+use inc_base::{Meter, Sink, Source};
 use inc_dir::Dir;
 use inc_session::Saved;
 use std::alloc::Global;
 
-/// Runs the command of these words: today `build --crate NAME --root DIR --src FILE --image FILE`.
+/// Runs the command of these words (docs/ARCHITECTURE.md, "Commands").
 ///
-/// It reads the text from the source, lets a session of its own visit the directory, and writes the diagnostics
-/// and the line on the emitted units to `out` and the image to `image`. It answers the status of the process
-/// (docs/ARCHITECTURE.md, "Statuses"), and whichever that is, no session of its own runs at its exit. The
-/// order of the refusals is that of the words, the source, the text, the session, `out` and `image`; want of
-/// memory may come at any of them. It waits for nobody and returns.
+/// It reads the text from the source. For a build it lets a session of its own visit the directory; a clean build
+/// touches none. It writes the diagnostics and the line on the units to `out` and the image to `image`. It
+/// answers the status of the process (docs/ARCHITECTURE.md, "Statuses"), and whichever that is, no session of its own
+/// runs at its exit. The order of the refusals is that of the words, the source, the limits, the session, `out` and
+/// `image`; want of memory may come at any of them. It waits for nobody and returns.
 pub fn run<S: Source, D: Dir<Saved>, O: Sink, I: Sink>(
     alloc: Global,
     words: &[&str],
@@ -37,20 +36,8 @@ pub fn run<S: Source, D: Dir<Saved>, O: Sink, I: Sink>(
         (record { out = O.held out.old; out_faults = O.faults out.old; image = I.held image.old; image_faults = I.faults image.old })
         (record { out = O.held out.new; out_faults = O.faults out.new; image = I.held image.new; image_faults = I.faults image.new }) }
 {
-    let Built {
-        diags,
-        image: bytes,
-        used,
-        note,
-    } = match build(alloc, words, src, dir, meter) {
-        Ok(built) => built,
-        Err(status) => return refuse(status, out),
-    };
-    let Ok(lines) = built_lines(alloc, diags.as_slice(), used, note) else {
-        return refuse(Status::OutOfMemory, out);
-    };
-    match deliver(lines.as_slice(), bytes.as_slice(), out, image) {
-        Ok(()) => Status::Done.code(),
-        Err(Failed) => Status::SinkFault.code(),
+    match answer(alloc, words, src, dir, meter) {
+        Ok(answer) => write_answer(alloc, answer, out, image),
+        Err(status) => refuse(status, out),
     }
 }

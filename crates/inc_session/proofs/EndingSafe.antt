@@ -79,6 +79,14 @@ module _ (job : Job) (its : SessionName) (h : ℕ) where
     emits_none : (start : ℕ) → metered (units_of job) made_dir start ≡ raised start 0
     emits_none start = w.rose start ∙ ap (λ made. raised start (units_in made)) errors
 
+    removed : dir ((RemoveDir job.krate entry, Done) ∷ made_dir) ≡ Removed
+    removed = ap (dir_after (RemoveDir job.krate entry, Done)) w.has_dir ∙ ap (λ b. cond b Removed (Stands job.krate entry [])) (here job.krate entry)
+
+    was_removed : (gone : Reply) → Some gone ≡ Some Done → dir ((RemoveDir job.krate entry, gone) ∷ made_dir) ≡ Removed
+    was_removed gone is =
+        let done : gone ≡ Done = cc in
+        ap (λ gone. dir ((RemoveDir job.krate entry, gone) ∷ made_dir)) done ∙ removed
+
     -- the directory is answered to be gone, or passed over, and then the lock file is to go
     module _ (gone : Reply) (goes : dir_gone job.krate its h gone ≡ Ask (UnlinkLock job.krate (lock_text its)) (lock_gone h)) (calm : is_fault gone ≡ false) where
       lock_gone_safe : (reply : Reply) → Good (then (lock_gone h reply) next) ((UnlinkLock job.krate (lock_text its), reply) ∷ (RemoveDir job.krate entry, gone) ∷ made_dir)
@@ -96,6 +104,11 @@ module _ (job : Job) (its : SessionName) (h : ℕ) where
             whole = record { follows = (((tt, refl), ap asks goes), ap (λ plan. asks (fed plan reply)) goes); ended = ap (λ plan. fed (fed plan reply) closed) goes };
             noted = ap (λ b. is_fault closed || b) (or_none (is_fault reply) ∙ ap (λ b. is_fault reply || (b || false)) (sym calm));
           };
+          sooner = (UnlinkLock job.krate (lock_text its), reply) ∷ (RemoveDir job.krate entry, gone) ∷ made_dir;
+          closed = closed;
+          last = refl;
+          named = w.named;
+          removed = λ is. ap (λ d. dir_after (Close h, closed) (dir_after (UnlinkLock job.krate (lock_text its), reply) d)) (was_removed gone is);
           rose = emits_none;
         },
       )
@@ -103,9 +116,6 @@ module _ (job : Job) (its : SessionName) (h : ℕ) where
       unlocks_safe : (CanBe saved_files job ((RemoveDir job.krate entry, gone) ∷ made_dir) → MayRemoveLock job ((RemoveDir job.krate entry, gone) ∷ made_dir) job.krate (lock_text its))
           → Good (then (Ask (UnlinkLock job.krate (lock_text its)) (lock_gone h)) next) ((RemoveDir job.krate entry, gone) ∷ made_dir)
       unlocks_safe may = (may, λ reply kind. lock_gone_safe reply)
-
-    removed : dir ((RemoveDir job.krate entry, Done) ∷ made_dir) ≡ Removed
-    removed = ap (dir_after (RemoveDir job.krate entry, Done)) w.has_dir ∙ ap (λ b. cond b Removed (Stands job.krate entry [])) (here job.krate entry)
 
     dir_gone_safe : (reply : Reply) → IsKindOf (RemoveDir job.krate entry) reply → Good (then (dir_gone job.krate its h reply) next) ((RemoveDir job.krate entry, reply) ∷ made_dir)
     dir_gone_safe Done kind = unlocks_safe Done refl refl (λ can. inl (its, w.named, refl, refl, (h, w.locked), inr removed))
@@ -125,6 +135,11 @@ module _ (job : Job) (its : SessionName) (h : ℕ) where
           whole = record { follows = ((tt, refl), refl); ended = refl };
           noted = refl;
         };
+        sooner = (RemoveDir job.krate entry, Fault) ∷ made_dir;
+        closed = closed;
+        last = refl;
+        named = w.named;
+        removed = λ is. absurd (cc);
         rose = emits_none;
       },
     )

@@ -8,4 +8,5 @@ mod EndingSafe
 mod OrderSafe
 mod Parts
 mod Asks
-mod Literals
+mod Sorted
+mod Compiled

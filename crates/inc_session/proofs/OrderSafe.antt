@@ -14,7 +14,7 @@ use Rattle.inc_session.specs.Saving.{all_ops, each}
 use Rattle.inc_session.specs.declared.compile.Made.{Made}
 use Rattle.inc_session.specs.declared.naming.NamingEnd.{NamingEnd}
 use Rattle.inc_session.specs.declared.naming.NamingEnd.TheVariants as naming
-use Rattle.inc_session.proofs.Literals.{compiled_in_order}
+use Rattle.inc_session.proofs.Compiled.{compiled_in_order}
 use Rattle.inc_session.proofs.EndingSafe.{saved_safe, fails_safe}
 use Rattle.inc_session.proofs.Fair.{IsFair}
 use Rattle.inc_session.proofs.NamingSafe.{naming_safe}

@@ -125,9 +125,3 @@ all_writes job its files = saving_writes job.krate (working_text its) files (pub
 pub both_true : (a b : Bool) → (a && b) ≡ true → (a ≡ true) × (b ≡ true)
 both_true true b is = (refl, is)
 both_true false b is = absurd (cc)
-
-pub writes_rest : (ops : List Op) (op : Op) (rest : List Op) → taken_of ops ≡ Some (op, rest) → are_writes ops ≡ true → are_writes rest ≡ true
-writes_rest [] op rest is w = absurd (cc)
-writes_rest (first ∷ ops) op rest is w =
-    let pair : (first, ops) ≡ (op, rest) = cc in
-    ap (λ (pair : Op × List Op). are_writes pair.1) (sym pair) ∙ (both_true (is_write first) (are_writes ops) w).1

@@ -1,6 +1,6 @@
 -- How a session ends: after publishing it closes its lock; after errors it first takes its directory and its lock file away.
 -- Each gives whether a step of it was answered by a fault.
-use Rattle.std.specs.Prelude.{ℕ, Bool, true, false, ◌||◌, [], ◌∷◌}
+use Rattle.std.specs.Prelude.{ℕ, Bool, true, false, ◌||◌, [], ◌∷◌, Option, Some, None}
 use Rattle.inc_fs.specs.Paths.{Text}
 use Rattle.inc_fs.specs.declared.op.Op.TheVariants.{RemoveDir, UnlinkLock, Close}
 use Rattle.inc_fs.specs.declared.op.Reply.{Reply}
@@ -21,6 +21,12 @@ is_fault reply = false
 abbrev pub has_fault : Steps → Bool
 has_fault [] = false
 has_fault (step ∷ steps) = is_fault step.1 || has_fault steps
+
+-- how the latest removal of a directory among these steps was answered
+abbrev pub removed_by : Steps → Option Reply
+removed_by [] = None
+removed_by ((RemoveDir krate entry, reply) ∷ steps) = Some reply
+removed_by (step ∷ steps) = removed_by steps
 
 -- it closes its own lock, whatever the reply; a fault may have come before
 abbrev pub closes : ℕ → Bool → Plan Bool

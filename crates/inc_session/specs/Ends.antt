@@ -16,12 +16,12 @@ use Rattle.inc_plan.specs.Plan.{Plan, Ends, Judge}
 use Rattle.inc_proto.specs.Events.{Steps}
 use Rattle.inc_proto.specs.Permits.{HasDir, IsPermitted, complete}
 use Rattle.inc_proto.specs.Views.{name, own, dir, HasTried, HasTriedDir}
-use Rattle.inc_proto.specs.Views.Dir.{Unmade, Published}
+use Rattle.inc_proto.specs.Views.Dir.{Unmade, Removed, Published}
 use Rattle.inc_proto.specs.declared.own.Known.{Known}
 use Rattle.inc_proto.specs.declared.own.OwnLock.TheVariants.{Locked}
 use Rattle.inc_wire.specs.Forms.{job_hash_of}
 use Rattle.inc_session.specs.Compiling.{compiled_of, units_of}
-use Rattle.inc_session.specs.Ending.{fails, has_fault}
+use Rattle.inc_session.specs.Ending.{fails, has_fault, removed_by}
 use Rattle.inc_session.specs.Order.{most_names, plan_of}
 use Rattle.inc_session.specs.Reading.{AreAnswered, IsDisturbing, lost_names, metered}
 use Rattle.inc_session.specs.Saves.{saved_files}
@@ -125,7 +125,8 @@ pub record HasBuilt (job : Job) (diags image : Text) (used : Used) (note : Bool)
   pub noted : note ≡ has_fault ((Close handle, closed) ∷ [])
   pub rose : (start : ℕ) → metered (units_of job) steps start ≡ raised start made.units
 
--- Its text has errors: after it made its directory it took that away, then its lock file, and closed its lock.
+-- Its text has errors: after it made its directory it took that away, then its lock file, and at last closed its lock. It
+-- emitted nothing, and has no directory any more where the removal was answered `Done`.
 pub record HasFailed (job : Job) (diags : Text) (note : Bool) (steps : Steps) : Type 0 where
   pub its : SessionName
   pub handle : ℕ
@@ -133,6 +134,11 @@ pub record HasFailed (job : Job) (diags : Text) (note : Bool) (steps : Steps) : 
   pub diags_are : diags ≡ (compiled_of job).diags
   pub before : Steps
   pub ended : IsEnding (fails job.krate its handle) (making job its ∷ before) note steps
+  pub sooner : Steps
+  pub closed : Reply
+  pub last : steps ≡ (Close handle, closed) ∷ sooner
+  pub named : name steps ≡ Some its
+  pub removed : removed_by steps ≡ Some Done → dir steps ≡ Removed
   pub rose : (start : ℕ) → metered (units_of job) steps start ≡ raised start 0
 
 -- why a session of this job ends with this outcome

@@ -1,4 +1,5 @@
 pub mod Compiling
+pub mod CompilingLaws
 pub mod Naming
 pub mod Saving
 pub mod Ending

@@ -1,6 +1,6 @@
 //! A session: it asks for its steps one by one, is fed the replies, and ends with an outcome.
 //!
-//! `inc_base`, `inc_fs`, `inc_names`, `inc_wire`, `inc_proto`, `inc_laws`, `inc_plan` and `rs_literal` stand
+//! `inc_base`, `inc_fs`, `inc_names`, `inc_wire`, `inc_proto`, `inc_laws`, `inc_plan`, `inc_products` and `rs_queries` stand
 //! below. A session touches no directory; whoever drives it makes its steps. Its order is a plan: open
 //! `specs/Order.antt` first, and the files that it names for its parts; then `specs/Ends.antt`, which says with
 //! which steps it ends how. The code is a walk through the plan (`specs/Made.antt`).
@@ -8,6 +8,7 @@
 
 mod compile;
 mod failing;
+mod files;
 mod laws;
 mod naming;
 mod ops;

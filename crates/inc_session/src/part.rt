@@ -8,7 +8,7 @@ ghost use Rattle.inc_session.specs.Naming.{naming_plan};
 ghost use Rattle.inc_session.specs.Order.{after_naming, after_compiling, part_rest};
 ghost use Rattle.inc_session.specs.Reading.{metered_for, metered_end, metered_fed};
 
-use crate::compile::{Compiled, Made, compile};
+use crate::compile::{Compiled, Made};
 use crate::failing::{Failing, FailingAt};
 use crate::naming::{Naming, NamingEnd, NamingFed};
 use crate::ops::ops_of;
@@ -52,7 +52,7 @@ fn saving(
         units,
         files,
     } = made;
-    match ops_of(task, its, files.as_slice()) {
+    match ops_of(task, its, files.pairs()) {
         Ok(ops) => {
             drop(files);
             let _count = ops.len();
@@ -96,7 +96,7 @@ fn named(task: &Task, end: NamingEnd, meter: &mut Meter) -> Result<Part, Memory>
     ensures meter { OnOk result (meter.new ≡ metered_end (units_of task.now) end meter.old) }
 {
     match end {
-        NamingEnd::Named(its, handle) => match compile(task.alloc(), task.job(), meter) {
+        NamingEnd::Named(its, handle) => match task.compile(meter) {
             Ok(made) => compiled(task, its, handle, made),
             Err(refused) => Err(refused),
         },

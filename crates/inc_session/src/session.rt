@@ -1,6 +1,7 @@
 ghost use Rattle.std.specs.Prelude.{◌≡◌, ◌<◌, [], IfOk, OnOk, OnErr, IsSome, None};
 ghost use Rattle.std.specs.Option.{option_copied};
 ghost use Rattle.inc_plan.specs.Plan.{asks, fed};
+ghost use Rattle.rs_queries.specs.Reading.{IsReading};
 ghost use Rattle.inc_session.specs.Compiling.{units_of};
 ghost use Rattle.inc_session.specs.Order.{part_rest};
 ghost use Rattle.inc_session.specs.Made.{HasMade, AsksPermitted, GoesOn, left_of, left_in, outcome_of, outcome_in, rest_of};
@@ -13,6 +14,7 @@ use crate::part::{Part, naming};
 use crate::task::Task;
 use inc_base::{Job, Memory, Meter};
 use inc_fs::{Op, Reply};
+use rs_queries::{Reading, read};
 use std::alloc::Global;
 use std::mem;
 
@@ -77,12 +79,31 @@ fn ended_by(part: Part) -> Option<Outcome>
 }
 
 impl Session {
-    /// A session of this job that has made no step. `Memory` where there is none for its name and its hash.
+    /// A session of this job that has made no step. `Memory` where there is none for the reading of its text, its
+    /// name and its hash.
     pub fn new(alloc: Global, job: Job) -> Result<Session, Memory>
         ensures job { IfOk result (λ session. session.task ≡ job) }
         ensures made { IfOk result (λ session. HasMade session []) }
     {
-        let task = Task::of(alloc, job)?;
+        match read(alloc, job.text.as_slice()) {
+            Ok(reading) => Session::of(alloc, job, reading),
+            Err(refused) => {
+                drop(job);
+                Err(refused)
+            }
+        }
+    }
+
+    /// The same of a job whose text was read so.
+    pub fn of(alloc: Global, job: Job, reading: Reading) -> Result<Session, Memory>
+        requires { IsReading job.text reading }
+        ensures job { IfOk result (λ session. session.task ≡ job) }
+        ensures made { IfOk result (λ session. HasMade session []) }
+    {
+        let task = match Task::of(alloc, job, reading) {
+            Ok(task) => task,
+            Err(refused) => return Err(refused),
+        };
         let mut meter = Meter::new();
         let part = match naming(&task, again(8), &mut meter) {
             Ok(part) => part,

@@ -1,21 +1,28 @@
-ghost use Rattle.std.specs.Prelude.{◌≡◌, IfOk};
+ghost use Rattle.std.specs.Prelude.{◌≡◌, IfOk, OnOk};
+ghost use Rattle.inc_base.specs.Meters.{raised};
 ghost use Rattle.inc_fs.specs.declared.op.Op.TheVariants.{Look, MakeLock, MakeDir, Create, Append, RemoveDir, UnlinkLock};
 ghost use Rattle.inc_names.specs.Entries.{lock_text, working_text};
+ghost use Rattle.inc_wire.specs.Forms.{job_hash_of};
+ghost use Rattle.rs_queries.specs.Reading.{IsReading};
+ghost use Rattle.inc_session.specs.Compiling.{compiled_of, units_of};
 ghost use Rattle.inc_session.specs.Saving.{publishing};
 
-use inc_base::{Bytes, Copied, Job, Label, Memory};
+use crate::compile::{Compiled, compile};
+use inc_base::{Bytes, Copied, Job, Label, Memory, Meter};
 use inc_fs::Op;
 use inc_names::{Entry, SessionName, crate_dir, entry_text};
 use inc_wire::job_hash;
+use rs_queries::Reading;
 use std::alloc::Global;
 use std::marker::Model;
 
-/// A job with what a session needs of it at each step: the name of its crate's directory, and its hash.
+/// A job with what a session needs of it: the name of its crate's directory, its hash, and the reading of its text.
 #[derive(Drop)]
 pub struct Task {
     alloc: Global,
     krate: Label,
     hash: u128,
+    reading: Reading,
     job: Job,
 }
 
@@ -23,36 +30,56 @@ impl Model for Task {
     ghost use Rattle.std.specs.Prelude.{◌≡◌};
     ghost use Rattle.inc_base.specs.declared.job.Job.{Job};
     ghost use Rattle.inc_wire.specs.Forms.{job_hash_of};
+    ghost use Rattle.rs_queries.specs.Reading.{IsReading};
 
     ghost Value = { Job };
 
     ghost view = { λ t. t.job };
 
-    ghost invariant = { λ t. (t.krate ≡ t.job.krate) × (t.hash ≡ job_hash_of t.job) };
+    ghost invariant = { λ t. (t.krate ≡ t.job.krate) × (t.hash ≡ job_hash_of t.job) × IsReading t.job.text t.reading };
+}
+
+/// The name of a job's crate's directory, and the job's hash.
+fn named(alloc: Global, job: &Job) -> Result<(Label, u128), Memory>
+    ensures { IfOk result (λ found. (found.0 ≡ job.now.krate) × (found.1 ≡ job_hash_of job.now)) }
+{
+    let krate = crate_dir(alloc, &job.krate)?;
+    let hash = job_hash(alloc, job)?;
+    Ok((krate, hash))
 }
 
 impl Task {
-    pub(crate) fn of(alloc: Global, job: Job) -> Result<Task, Memory>
+    /// A job whose text was read so.
+    pub(crate) fn of(alloc: Global, job: Job, reading: Reading) -> Result<Task, Memory>
+        requires { IsReading job.text reading }
         ensures { IfOk result (λ task. task ≡ job) }
     {
-        let krate = crate_dir(alloc, &job.krate)?;
-        let hash = job_hash(alloc, &job)?;
-        Ok(Task {
-            alloc,
-            krate,
-            hash,
-            job,
-        })
+        match named(alloc, &job) {
+            Ok((krate, hash)) => Ok(Task {
+                alloc,
+                krate,
+                hash,
+                reading,
+                job,
+            }),
+            Err(refused) => {
+                drop(reading);
+                drop(job);
+                Err(refused)
+            }
+        }
     }
 
     pub(crate) fn alloc(&self) -> Global {
         self.alloc
     }
 
-    pub(crate) fn job(&self) -> &Job
-        ensures { result.now ≡ self.now }
+    /// What its text compiles to, as `compile` says.
+    pub(crate) fn compile(&self, meter: &mut Meter) -> Result<Compiled, Memory>
+        ensures value { IfOk result (λ compiled. compiled ≡ compiled_of self.now) }
+        ensures meter { OnOk result (meter.new ≡ raised meter.old (units_of self.now)) }
     {
-        &self.job
+        compile(self.alloc, &self.job, &self.reading, meter)
     }
 
     pub(crate) fn krate(&self) -> Result<Label, Memory>

@@ -15,8 +15,9 @@ ghost use Rattle.incc.specs.Endings.{EndsAs};
 
 use image::ImageFile;
 use inc_base::{Bytes, Memory, Meter, Sink, StdSink, StdSource, write_all};
-use inc_cli::{OpenPlaces, Status, places, run};
+use inc_cli::{Status, run};
 use inc_real::{Failure, RealDir};
+use inc_words::{OpenPlaces, places};
 use messages::{say, show_usage};
 use patient::Patient;
 use standard::Standard;

@@ -3,7 +3,8 @@ use std::io;
 use std::io::Eprint;
 
 /// Each accepted form of words, for a person whose words weren't.
-const USAGE: &str = "usage: incc build --crate NAME --root DIR --src FILE --image FILE";
+const USAGE: &str =
+    "usage: incc build --crate NAME --root DIR --src FILE --image FILE [--level 0 or 1]\n       incc clean --src FILE --image FILE [--level 0 or 1]";
 
 /// Tells a person what failed: what it was done to, and the system's words. That it can't be told changes
 /// nothing.

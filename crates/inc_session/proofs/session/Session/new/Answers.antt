@@ -1,6 +1,0 @@
-use Rattle.inc_session.proofs.Asks.{begins_named}
-use Rattle.inc_session.proofs.session.Session.new.Goals as goal
-
-pub returns-in-Ok-op-clause-made : goal.returns-in-Ok-op-clause-made
-returns-in-Ok-op-clause-made c =
-    begins_named (record { task = c.in_ok-task.task; part = c.in-Ok.part; op = c.in-Ok-op.op }) c.again.result c.in-Ok.ensures.rest c.again.ensures.rest c.in-Ok-op.ensures

@@ -1,4 +1,0 @@
-pub mod Literal
-pub mod LiteralLaws
-pub mod Object
-pub mod ObjectLaws

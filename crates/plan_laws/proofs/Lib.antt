@@ -1,0 +1,5 @@
+pub mod Given
+pub mod Tests
+pub mod Index
+pub mod Agree
+pub mod Wrong

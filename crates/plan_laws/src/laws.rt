@@ -1,0 +1,43 @@
+//! What the queries of a text give.
+
+ghost use Rattle.std.specs.Prelude.{◌≡◌, ℕ, List, Option, Some, Ok, Err};
+ghost use Rattle.std.specs.List.{AllByRecursion};
+ghost use Rattle.inc_query.specs.Plans.{denote};
+ghost use Rattle.rs_tree.specs.declared.answers.Const.{Const};
+ghost use Rattle.rs_tree.specs.declared.answers.Found.{Found};
+ghost use Rattle.rs_tree.specs.declared.index.IndexItem.{IndexItem};
+ghost use Rattle.rs_tree.specs.declared.index.Sig.{Sig};
+ghost use Rattle.rs_tree.specs.declared.place.Place.{Place};
+ghost use Rattle.rs_tree.specs.declared.tree.Crate.{Crate};
+ghost use Rattle.rs_tree.specs.declared.tree.Path as path;
+ghost use Rattle.rs_tree.specs.Plain.{PlainItem};
+ghost use Rattle.rs_text.specs.Text.{text_of};
+ghost use Rattle.rs_text.specs.declared.fault.TextFault.{TextFault};
+ghost use Rattle.rs_forms.specs.Forms.{fault_form, index_form};
+ghost use Rattle.rs_check.specs.Items.{item_wrongs};
+ghost use Rattle.rs_queries.specs.Built.{tree_index};
+ghost use Rattle.rs_plans.specs.Plans.{index_fault, plan_of};
+ghost use Rattle.rs_plans.specs.Readings.{index_in};
+ghost use Rattle.rs_plans.specs.Steps.{whole};
+ghost use Rattle.plan_laws.specs.Agree.{Agrees};
+ghost use Rattle.plan_laws.specs.Texts.{HasCrate};
+
+use rs_grammar::trees_are_tidy;
+use rs_text::texts_are_read;
+
+/// The query of the index gives the index of a text's tree, which is read back as it, and where the text has a fault, that.
+pub fn indexes_are_valued()
+    ensures tree { (setting text : List ℕ) (krate : Crate) → text_of text ≡ Ok krate → denote (plan_of setting) text (whole 1) ≡ index_form (tree_index krate) }
+    ensures fault { (setting text : List ℕ) (fault : TextFault) → text_of text ≡ Err fault → denote (plan_of setting) text (whole 1) ≡ fault_form (index_fault fault) }
+    ensures read { (setting text : List ℕ) (krate : Crate) → HasCrate text krate → index_in (denote (plan_of setting) text (whole 1)) ≡ Some (tree_index krate) }
+{
+    texts_are_read();
+    trees_are_tidy();
+}
+
+/// What is wrong with an item depends on the signatures of the items that its paths lead to, and on no others: two lists of
+/// signatures that agree at each of these say the same of it.
+pub fn wrongs_need_named_items()
+    ensures { (items : List IndexItem) (sigs other : List (Place × Sig)) (home : List ℕ) (found : List Found) (value : Option Const) (item : PlainItem path.Path)
+        → AllByRecursion (Agrees sigs other) found → item_wrongs items sigs home found value item ≡ item_wrongs items other home found value item }
+{}

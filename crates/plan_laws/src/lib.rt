@@ -1,0 +1,8 @@
+//! What the queries of a text give, as laws: the values that the definitions of the clean build say.
+//!
+//! The plans of `rs_plans` and the clean build of `rs_queries` stand below. Open `specs/Texts.antt` first, and then `src/laws.rt`.
+#![tactic(auto)]
+
+mod laws;
+
+pub use laws::{indexes_are_valued, wrongs_need_named_items};

@@ -6,13 +6,13 @@ use Rattle.rs_tree.specs.declared.place.At.{At}
 use Rattle.rs_tree.specs.declared.tree.Path as path
 use Rattle.rs_tree.specs.Plain.{Exp, Exps, Operands, Number, Truth, Path, Call, Group, Unary, Arith, Compare, And, Or, Done, By}
 use Rattle.rs_tree.specs.Plain.{Sta, Stas, Arms, Let, Assign, Return, Eval, While, If, Print, Bare, Else, Arm}
-use Rattle.rs_tree.specs.Leaves.{filled, filled_in, sta_filled, stas_filled}
+use Rattle.rs_tree.specs.Leaves.{filled, sta_filled, stas_filled}
 use Rattle.rs_lower.specs.Code.{is_not, is_truth, has_value}
 use Rattle.rs_lower.specs.Counts.{labels, labels_all, labels_by, labels_in, places, places_all, places_arms, lets, lets_all, lets_arms}
 use Rattle.rs_lower.specs.Locals.{Env}
 use Rattle.rs_lower.specs.Meanings.{Leaf, Meanings}
 use Rattle.rs_lower.specs.Reduced.{folded, folded_or, reduced, reduced_all, reduced_by, reduced_in, sta_reduced, stas_reduced, arms_reduced}
-use Rattle.rs_lower.proofs.CountLemmas.{labels_filled, labels_in_filled, places_filled, places_all_filled, lets_filled, lets_all_filled}
+use Rattle.rs_lower.proofs.CountLemmas.{labels_filled, places_filled, places_all_filled, lets_filled, lets_all_filled}
 
 fewer_or : (at : At) (truth : Bool) (v : Option ℤ) (parts : Exp Leaf) (n : ℕ) → labels parts ≤ n → labels (folded_or at truth v parts) ≤ n
 fewer_or at truth None parts n few = few
@@ -87,9 +87,6 @@ mutual
 -- the same of a tree that is answered and reduced
 pub fewer : (w : Meanings) (bs : List Found) (e : Exp path.Path) → labels (reduced w (filled Absent bs e)) ≤ labels e
 fewer w bs e = omega (arith, labels_reduced w (filled Absent bs e), labels_filled Absent bs e)
-
-pub fewer_in : (w : Meanings) (bs : List Found) (value : Option (Exp path.Path)) → labels_in (reduced_in w (filled_in Absent bs value)) ≤ labels_in value
-fewer_in w bs value = omega (arith, labels_in_reduced w (filled_in Absent bs value), labels_in_filled Absent bs value)
 
 pub fewer_places : (w : Meanings) (bs : List Found) (t : Sta path.Path) → places (sta_reduced w (sta_filled Absent bs t)) ≤ places t
 fewer_places w bs t = omega (arith, places_reduced w (sta_filled Absent bs t), places_filled Absent bs t)

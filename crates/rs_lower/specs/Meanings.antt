@@ -17,6 +17,11 @@ use Rattle.rs_types.specs.Types.{sig_at}
 abbrev pub Leaf : Type 0
 Leaf = path.Path × Found
 
+-- the signatures of items, and the values of constants
+pub record Ready : Type 0 where
+  pub sigs : List (Place × Sig)
+  pub consts : List (Place × Const)
+
 -- the signatures and the values of the items that paths lead to, whether the function gives a value, and whether its level folds
 pub record Meanings : Type 0 where
   pub sigs : List (Place × Sig)

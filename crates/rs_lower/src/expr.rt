@@ -15,12 +15,13 @@ ghost use Rattle.rs_lower.specs.Fixed.{path_fixed, unary_fixed};
 ghost use Rattle.rs_lower.specs.State.{put, numbered, emitted, with_exp, with_exps, with_operands, with_call, with_chain, with_unary, with_arith, with_compare, with_logic, outcome_of, chained_of, arith_fixed, compare_fixed, logic_of};
 
 use crate::answers::Answers;
-use crate::fixed::{Fixed, also, as_truth, combine, compare, given, number_in, unary};
+use crate::fixed::{Fixed, also, as_truth, combine, compare, number_in, unary};
 use crate::known::Known;
 use crate::locals::Locals;
 use crate::types::is_not;
 use inc_base::{Bytes, Copied, List, Memory};
 use rs_tree::{ArithOp, CmpOp, Const, Expr, Form, Found, Instr, Path, Place, Sig, UnaryOp};
+use rs_value::given;
 
 /// The instructions so far, the numbers of labels and slots given out, the locals in scope, and the answers of
 /// the paths that are left.
@@ -31,7 +32,7 @@ pub(crate) struct Lowerer<'a, 'b> {
     pub slots: u16,
     pub locals: Locals<'a>,
     pub answers: Answers<'a>,
-    pub meanings: &'b Known<'a>,
+    pub meanings: &'b Known<'a, 'b>,
 }
 
 impl<'a, 'b> Lowerer<'a, 'b> {

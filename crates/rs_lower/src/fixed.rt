@@ -1,8 +1,8 @@
 //! What expressions without locals and calls come to.
 
-ghost use Rattle.std.specs.Prelude.{◌≡◌, Ok};
+ghost use Rattle.std.specs.Prelude.{◌≡◌};
 ghost use Rattle.std.specs.Option.{option_copied};
-ghost use Rattle.rs_value.specs.Value.{and_then, arithmetic as arithmetic_of, unary as unary_of, given, holds, number_of};
+ghost use Rattle.rs_value.specs.Value.{and_then};
 ghost use Rattle.rs_lower.specs.Fixed.{also, as_truth, combined, compared, joined, shown, truth_of, unary_fixed};
 ghost use Rattle.rs_lower.specs.Reduced.{number_in, value_in};
 
@@ -25,15 +25,6 @@ pub(crate) fn number_in(value: Option<&Const>) -> Option<i64>
         Some(Const::DivZero) => None,
         Some(Const::Bad) => None,
         None => None,
-    }
-}
-
-pub(crate) fn given(value: Option<i64>) -> Result<i64, Trap>
-    ensures { result ≡ given value }
-{
-    match value {
-        None => Err(Trap::NoValue),
-        Some(v) => Ok(v),
     }
 }
 
@@ -60,17 +51,7 @@ pub(crate) fn unary(op: UnaryOp, x: Fixed) -> Fixed
 {
     match x {
         None => None,
-        Some(Err(trap)) => Some(Err(trap)),
-        Some(Ok(v)) => Some(applied(op, v)),
-    }
-}
-
-fn applied(op: UnaryOp, v: i64) -> Result<i64, Trap>
-    ensures { result ≡ unary_of op v }
-{
-    match op {
-        UnaryOp::Negate => v.checked_neg().ok_or(Trap::Overflow),
-        UnaryOp::Not => Ok(i64::from(v == 0)),
+        Some(x) => Some(rs_value::unary(op, x)),
     }
 }
 
@@ -80,31 +61,7 @@ pub(crate) fn combine(op: ArithOp, x: Fixed, y: Fixed) -> Fixed
     match (x, y) {
         (None, _) => x,
         (Some(_), None) => None,
-        (Some(Err(trap)), Some(_)) => Some(Err(trap)),
-        (Some(Ok(_)), Some(Err(trap))) => Some(Err(trap)),
-        (Some(Ok(a)), Some(Ok(b))) => Some(arithmetic(op, a, b)),
-    }
-}
-
-fn arithmetic(op: ArithOp, x: i64, y: i64) -> Result<i64, Trap>
-    ensures { result ≡ arithmetic_of op x y }
-{
-    match op {
-        ArithOp::Add => x.checked_add(y).ok_or(Trap::Overflow),
-        ArithOp::Sub => x.checked_sub(y).ok_or(Trap::Overflow),
-        ArithOp::Mul => x.checked_mul(y).ok_or(Trap::Overflow),
-        ArithOp::Div => {
-            if y == 0 {
-                return Err(Trap::DivZero);
-            }
-            x.checked_div(y).ok_or(Trap::Overflow)
-        }
-        ArithOp::Rem => {
-            if y == 0 {
-                return Err(Trap::DivZero);
-            }
-            x.checked_rem(y).ok_or(Trap::Overflow)
-        }
+        (Some(x), Some(y)) => Some(rs_value::combine(op, x, y)),
     }
 }
 
@@ -114,22 +71,7 @@ pub(crate) fn compare(op: CmpOp, x: Fixed, y: Fixed) -> Fixed
     match (x, y) {
         (None, _) => None,
         (Some(_), None) => None,
-        (Some(Err(trap)), Some(_)) => Some(Err(trap)),
-        (Some(Ok(_)), Some(Err(trap))) => Some(Err(trap)),
-        (Some(Ok(a)), Some(Ok(b))) => Some(Ok(i64::from(is_so(op, a, b)))),
-    }
-}
-
-fn is_so(op: CmpOp, x: i64, y: i64) -> bool
-    ensures { result ≡ holds op x y }
-{
-    match op {
-        CmpOp::Equal => x == y,
-        CmpOp::NotEqual => x != y,
-        CmpOp::Less => x < y,
-        CmpOp::Greater => x > y,
-        CmpOp::AtMost => x <= y,
-        CmpOp::AtLeast => x >= y,
+        (Some(x), Some(y)) => Some(rs_value::compare(op, x, y)),
     }
 }
 

@@ -11,6 +11,7 @@ use crate::count::{add, labels_in, lets_all, places_all};
 use crate::expr::Lowerer;
 use crate::known::Known;
 use crate::locals::{Held, Locals};
+use crate::lowering::Lowering;
 use crate::types::{is_truth_type, is_value_type};
 use inc_base::{List, Memory};
 use rs_tree::{Body, Const, Expr, Found, Instr, Ir, Item, Param, Place, Sig, Stmt};
@@ -19,13 +20,7 @@ use std::alloc::Global;
 /// The most slots, and the most labels, of a function.
 const MOST: u32 = 65_535;
 
-/// The intermediate form of a function. Level 0 folds nothing; any other level is level 0 of the function in which what has a value
-/// stands as that value.
-///
-/// `found` has an answer for each path of the item, in order of the text; `sigs` has each function that a path leads
-/// to, and `consts` the value of each constant. A function of more than 65,535 slots or labels, and what is no
-/// function, has no parameters, no slots and one instruction, which returns. `Memory` where there is none for the
-/// form (docs/FORMATS.md, "Lowering").
+/// The intermediate form of a function, as `Lowering::lower` gives it, of signatures and constants that are made ready for it alone.
 pub fn lower(
     item: &Item,
     found: &List<Found>,
@@ -36,8 +31,58 @@ pub fn lower(
     ensures lowered { IfOk result (λ ir. ir ≡ lowered level found.now sigs.now consts.now item.now) }
     ensures form { IfOk result IsForm }
 {
-    let ir = form_of(item, found, sigs, consts, level)?;
+    let lowering = Lowering::new(sigs, consts)?;
+    let ir = lowering.lower(item, found, level)?;
     Ok(ir)
+}
+
+impl<'a> Lowering<'a> {
+    /// The intermediate form of a function. Level 0 folds nothing; any other level is level 0 of the function in which what has a value
+    /// stands as that value.
+    ///
+    /// `found` has an answer for each path of the item, in order of the text; the signatures are those of the functions that paths lead
+    /// to, and the values those of the constants. A function of more than 65,535 slots or labels, and what is no
+    /// function, has no parameters, no slots and one instruction, which returns. `Memory` where there is none for the
+    /// form (docs/FORMATS.md, "Lowering").
+    pub fn lower(&self, item: &'a Item, found: &'a List<Found>, level: u8) -> Result<Ir, Memory>
+        ensures lowered { IfOk result (λ ir. ir ≡ lowered level found.now self.now.sigs self.now.consts item.now) }
+        ensures form { IfOk result IsForm }
+    {
+        let ir = self.form_of(item, found, level)?;
+        Ok(ir)
+    }
+
+    fn form_of(&self, item: &'a Item, found: &'a List<Found>, level: u8) -> Result<Ir, Memory>
+        ensures { IfOk result (λ ir. ir ≡ lowered level found.now self.now.sigs self.now.consts item.now) }
+    {
+        let alloc = found.allocator();
+        match &item.body {
+            Body::Const { .. } => no_code(alloc, false),
+            Body::Func {
+                inline,
+                params,
+                gives,
+                stmts,
+                tail,
+            } => {
+                let stmts = stmts.as_slice();
+                if !is_within(params.as_slice(), stmts, tail) {
+                    return no_code(alloc, *inline);
+                }
+                let known = Known::new(self, is_value_type(*gives), level != 0);
+                let params = params.as_slice();
+                lower_function(
+                    alloc,
+                    *inline,
+                    params,
+                    stmts,
+                    tail,
+                    found.as_slice(),
+                    &known,
+                )
+            }
+        }
+    }
 }
 
 /// Whether the slots and the labels of an item, where it is a function, are few enough to be lowered. It takes time
@@ -53,50 +98,6 @@ pub fn is_within_limits(item: &Item) -> bool
             tail,
             ..
         } => is_within(params.as_slice(), stmts.as_slice(), tail),
-    }
-}
-
-fn form_of(
-    item: &Item,
-    found: &List<Found>,
-    sigs: &List<(Place, Sig)>,
-    consts: &List<(Place, Const)>,
-    level: u8,
-) -> Result<Ir, Memory>
-    ensures { IfOk result (λ ir. ir ≡ lowered level found.now sigs.now consts.now item.now) }
-{
-    let alloc = found.allocator();
-    match &item.body {
-        Body::Const { .. } => no_code(alloc, false),
-        Body::Func {
-            inline,
-            params,
-            gives,
-            stmts,
-            tail,
-        } => {
-            let stmts = stmts.as_slice();
-            if !is_within(params.as_slice(), stmts, tail) {
-                return no_code(alloc, *inline);
-            }
-            let known = Known::new(
-                alloc,
-                sigs.as_slice(),
-                consts.as_slice(),
-                is_value_type(*gives),
-                level != 0,
-            )?;
-            let params = params.as_slice();
-            lower_function(
-                alloc,
-                *inline,
-                params,
-                stmts,
-                tail,
-                found.as_slice(),
-                &known,
-            )
-        }
     }
 }
 
@@ -128,14 +129,14 @@ fn is_within(params: &[Param], stmts: &[Stmt], tail: &Option<Expr>) -> bool
 }
 
 #[tactic(auto, using(crate::proofs::Whole::wholes))]
-fn lower_function<'a>(
+fn lower_function<'a, 'b>(
     alloc: Global,
     inline: bool,
     params: &'a [Param],
     stmts: &'a [Stmt],
     tail: &'a Option<Expr>,
     found: &'a [Found],
-    known: &Known<'a>,
+    known: &'b Known<'a, 'b>,
 ) -> Result<Ir, Memory>
     requires { IsTrue (is_within params.now (statements stmts.now) (optional tail.now)) }
     ensures { IfOk result (λ ir. ir ≡ reduced_code known.now inline params.now (stas_filled Absent found.now (statements stmts.now)) (filled_in Absent (drop (length (stas_leaves (statements stmts.now))) found.now) (optional tail.now))) }

@@ -15,7 +15,9 @@ mod fixed;
 mod function;
 mod known;
 mod locals;
+mod lowering;
 mod settle;
 mod types;
 
 pub use function::{is_within_limits, lower};
+pub use lowering::Lowering;

@@ -8,7 +8,7 @@ use crate::known::{constant_places, value_at};
 use inc_base::{Copied, List, Memory};
 use rs_const::Entry;
 use rs_lookup::Places;
-use rs_lower::lower;
+use rs_lower::Lowering;
 use rs_tree::{Const, Ir, Place, Sig};
 use std::alloc::Global;
 
@@ -52,32 +52,44 @@ fn const_by<'a>(
     Ok((at.copy()?, value.unwrap_or(Const::Bad)))
 }
 
-/// Each item, and its form at a level.
-pub(crate) fn forms_of(
+/// Each item, and its form at a level. Signatures and values are made ready once for all.
+pub(crate) fn forms_of<'a>(
     alloc: Global,
-    answered: &[Answered<'_>],
-    sigs: &List<(Place, Sig)>,
-    consts: &List<(Place, Const)>,
+    answered: &'a [Answered<'_>],
+    sigs: &'a List<(Place, Sig)>,
+    consts: &'a List<(Place, Const)>,
     level: u8,
 ) -> Result<List<(Place, Ir)>, Memory>
     ensures { IfOk result (λ fs. fs ≡ map (form_of level sigs.now consts.now) answered.now) }
 {
+    let lowering = Lowering::new(sigs, consts)?;
+    let forms = forms_by(alloc, answered, &lowering, level)?;
+    Ok(forms)
+}
+
+fn forms_by<'a>(
+    alloc: Global,
+    answered: &'a [Answered<'_>],
+    lowering: &Lowering<'a>,
+    level: u8,
+) -> Result<List<(Place, Ir)>, Memory>
+    ensures { IfOk result (λ fs. fs ≡ map (form_of level lowering.now.sigs lowering.now.consts) answered.now) }
+{
     let mut forms = List::new(alloc);
     for one in answered {
-        forms.push(form_of(one, sigs, consts, level)?)?;
+        forms.push(form_of(one, lowering, level)?)?;
     }
     Ok(forms)
 }
 
-fn form_of(
-    one: &Answered<'_>,
-    sigs: &List<(Place, Sig)>,
-    consts: &List<(Place, Const)>,
+fn form_of<'a>(
+    one: &'a Answered<'_>,
+    lowering: &Lowering<'a>,
     level: u8,
 ) -> Result<(Place, Ir), Memory>
-    ensures { IfOk result (λ f. f ≡ form_of level sigs.now consts.now one.now) }
+    ensures { IfOk result (λ f. f ≡ form_of level lowering.now.sigs lowering.now.consts one.now) }
 {
     let place = one.place()?;
-    let form = lower(&one.placed().item, one.list(), sigs, consts, level)?;
+    let form = lowering.lower(&one.placed().item, one.list(), level)?;
     Ok((place, form))
 }

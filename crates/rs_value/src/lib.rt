@@ -3,9 +3,10 @@
 //! `rs_tree` stands below; what gives constants their values and what folds stand above. Open `specs/Value.antt`.
 #![tactic(auto)]
 
-mod combine;
+mod operators;
 mod trap;
 mod value;
 
+pub use operators::{combine, compare, given, unary};
 pub use trap::Trap;
 pub use value::value_of;

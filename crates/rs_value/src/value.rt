@@ -4,7 +4,7 @@ ghost use Rattle.rs_tree.specs.Leaves.{answer, filled, filled_all, filled_by, le
 ghost use Rattle.rs_value.specs.Value.{value, chain, all, any};
 ghost use Rattle.rs_value.specs.declared.trap.Trap.TheVariants.{NoValue};
 
-use crate::combine::{also, combine, compare, either, given, truth, unary};
+use crate::operators::{also, combine, compare, either, given, truth, unary};
 use crate::trap::Trap;
 use rs_tree::{ArithOp, Expr, Form};
 use std::marker::Model;

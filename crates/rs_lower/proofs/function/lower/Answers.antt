@@ -1,7 +1,7 @@
-use Rattle.std.proofs.Common.{subst, sym}
-use Rattle.rs_lower.specs.Laws.{IsForm}
-use Rattle.rs_lower.proofs.Formed.{lowered_form}
+use Rattle.std.proofs.Common.{ap, ◌∙◌}
+use Rattle.rs_lower.specs.Lowered.{lowered}
+use Rattle.rs_lower.specs.Meanings.{Ready}
 use Rattle.rs_lower.proofs.function.lower.Goals as goal
 
-pub returns-clause-form : goal.returns-clause-form
-returns-clause-form c = subst IsForm (sym c.in_ok-ir.ensures) (lowered_form c.args.level c.args.found.now c.args.sigs.now c.args.consts.now c.args.item.now)
+pub returns-clause-lowered : goal.returns-clause-lowered
+returns-clause-lowered c = c.in_ok-ir.ensures.lowered ∙ ap (λ (r : Ready). lowered c.args.level c.args.found.now r.sigs r.consts c.args.item.now) c.in_ok-lowering.ensures

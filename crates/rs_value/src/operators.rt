@@ -5,7 +5,8 @@ ghost use Rattle.rs_value.specs.Chains.{also, either};
 use crate::trap::Trap;
 use rs_tree::{ArithOp, CmpOp, UnaryOp};
 
-pub(crate) fn given(value: Option<i64>) -> Result<i64, Trap>
+/// The value of a path that has this value, or `NoValue` where it has none.
+pub fn given(value: Option<i64>) -> Result<i64, Trap>
     ensures { result ≡ given value }
 {
     match value {
@@ -20,7 +21,9 @@ pub(crate) fn truth(holds: bool) -> i64
     if holds { 1 } else { 0 }
 }
 
-pub(crate) fn unary(op: UnaryOp, x: Result<i64, Trap>) -> Result<i64, Trap>
+/// What an operator gives of what its operand comes to: `!` of 0 is 1 and of any other number 0, `-` may give `Overflow`, and a fault
+/// stays (docs/LANGUAGE.md, "Values").
+pub fn unary(op: UnaryOp, x: Result<i64, Trap>) -> Result<i64, Trap>
     ensures { result ≡ and_then x (unary_of op) }
 {
     match x {
@@ -32,7 +35,8 @@ pub(crate) fn unary(op: UnaryOp, x: Result<i64, Trap>) -> Result<i64, Trap>
     }
 }
 
-pub(crate) fn compare(op: CmpOp, x: Result<i64, Trap>, y: Result<i64, Trap>) -> Result<i64, Trap>
+/// What a comparison gives, 1 where it holds and else 0, or the first fault of its two sides.
+pub fn compare(op: CmpOp, x: Result<i64, Trap>, y: Result<i64, Trap>) -> Result<i64, Trap>
     ensures { result ≡ and_then x (λ a. and_then y (λ b. Ok (number_of (holds op a b)))) }
 {
     match (x, y) {
@@ -55,7 +59,9 @@ fn is_so(op: CmpOp, x: i64, y: i64) -> bool
     }
 }
 
-pub(crate) fn combine(op: ArithOp, x: Result<i64, Trap>, y: Result<i64, Trap>) -> Result<i64, Trap>
+/// What arithmetic gives: the first fault of its two sides, else the number; `DivZero` of a division or a remainder by 0, `Overflow`
+/// where the number, or of a remainder the division, leaves the numbers of 64 bits (docs/LANGUAGE.md, "Values").
+pub fn combine(op: ArithOp, x: Result<i64, Trap>, y: Result<i64, Trap>) -> Result<i64, Trap>
     ensures { result ≡ and_then x (λ a. and_then y (arithmetic_of op a)) }
 {
     match (x, y) {

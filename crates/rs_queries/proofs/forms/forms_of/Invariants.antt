@@ -1,6 +1,0 @@
-use Rattle.std.proofs.Common.{◌≡◌, map, take}
-use Rattle.rs_queries.specs.Built.{form_of}
-use Rattle.rs_queries.proofs.forms.forms_of.Given as goal
-
-abbrev pub invariant-loop-one : goal.invariant-loop-one
-invariant-loop-one l = l.forms ≡ map (form_of l.level l.sigs l.consts) (take l.one-index l.answered)

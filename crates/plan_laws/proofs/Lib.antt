@@ -3,3 +3,4 @@ pub mod Tests
 pub mod Index
 pub mod Agree
 pub mod Wrong
+pub mod Lowering

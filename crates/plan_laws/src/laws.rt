@@ -9,17 +9,19 @@ ghost use Rattle.rs_tree.specs.declared.index.IndexItem.{IndexItem};
 ghost use Rattle.rs_tree.specs.declared.index.Sig.{Sig};
 ghost use Rattle.rs_tree.specs.declared.place.Place.{Place};
 ghost use Rattle.rs_tree.specs.declared.tree.Crate.{Crate};
+ghost use Rattle.rs_tree.specs.declared.tree.Item.{Item};
 ghost use Rattle.rs_tree.specs.declared.tree.Path as path;
 ghost use Rattle.rs_tree.specs.Plain.{PlainItem};
 ghost use Rattle.rs_text.specs.Text.{text_of};
 ghost use Rattle.rs_text.specs.declared.fault.TextFault.{TextFault};
 ghost use Rattle.rs_forms.specs.Forms.{fault_form, index_form};
 ghost use Rattle.rs_check.specs.Items.{item_wrongs};
+ghost use Rattle.rs_lower.specs.Lowered.{lowered};
 ghost use Rattle.rs_queries.specs.Built.{tree_index};
 ghost use Rattle.rs_plans.specs.Plans.{index_fault, plan_of};
 ghost use Rattle.rs_plans.specs.Readings.{index_in};
 ghost use Rattle.rs_plans.specs.Steps.{whole};
-ghost use Rattle.plan_laws.specs.Agree.{Agrees};
+ghost use Rattle.plan_laws.specs.Agree.{Agrees, ValuesAgree};
 ghost use Rattle.plan_laws.specs.Texts.{HasCrate};
 
 use rs_grammar::trees_are_tidy;
@@ -40,4 +42,11 @@ pub fn indexes_are_valued()
 pub fn wrongs_need_named_items()
     ensures { (items : List IndexItem) (sigs other : List (Place × Sig)) (home : List ℕ) (found : List Found) (value : Option Const) (item : PlainItem path.Path)
         → AllByRecursion (Agrees sigs other) found → item_wrongs items sigs home found value item ≡ item_wrongs items other home found value item }
+{}
+
+/// The form of a function depends on the signatures and the values of the items that its paths lead to, and on no others: lists
+/// of signatures and of constants' values that agree at each of these give the same form, at each level.
+pub fn forms_need_named_items()
+    ensures { (level : ℕ) (found : List Found) (sigs other : List (Place × Sig)) (consts more : List (Place × Const)) (item : Item)
+        → AllByRecursion (Agrees sigs other) found → AllByRecursion (ValuesAgree consts more) found → lowered level found sigs consts item ≡ lowered level found other more item }
 {}

@@ -5,4 +5,4 @@
 
 mod laws;
 
-pub use laws::{indexes_are_valued, wrongs_need_named_items};
+pub use laws::{forms_need_named_items, indexes_are_valued, wrongs_need_named_items};

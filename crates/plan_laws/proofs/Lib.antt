@@ -4,3 +4,4 @@ pub mod Index
 pub mod Agree
 pub mod Wrong
 pub mod Lowering
+pub mod Items

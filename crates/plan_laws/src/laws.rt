@@ -11,20 +11,24 @@ ghost use Rattle.rs_tree.specs.declared.place.Place.{Place};
 ghost use Rattle.rs_tree.specs.declared.tree.Crate.{Crate};
 ghost use Rattle.rs_tree.specs.declared.tree.Item.{Item};
 ghost use Rattle.rs_tree.specs.declared.tree.Path as path;
+ghost use Rattle.rs_tree.specs.declared.tree.Placed.{Placed};
 ghost use Rattle.rs_tree.specs.Plain.{PlainItem};
 ghost use Rattle.rs_text.specs.Text.{text_of};
 ghost use Rattle.rs_text.specs.declared.fault.TextFault.{TextFault};
-ghost use Rattle.rs_forms.specs.Forms.{fault_form, index_form};
+ghost use Rattle.rs_forms.specs.Forms.{fault_form, index_form, item_form, sig_form};
+ghost use Rattle.rs_answers.specs.Forms.{places_form};
 ghost use Rattle.rs_check.specs.Items.{item_wrongs};
 ghost use Rattle.rs_lower.specs.Lowered.{lowered};
 ghost use Rattle.rs_queries.specs.Built.{tree_index};
+ghost use Rattle.rs_queries.specs.Diagnosed.{calls_of};
+ghost use Rattle.rs_queries.specs.Known.{answered, items_of, place_of, sig_of};
 ghost use Rattle.rs_plans.specs.Plans.{index_fault, plan_of};
-ghost use Rattle.rs_plans.specs.Readings.{index_in};
-ghost use Rattle.rs_plans.specs.Steps.{whole};
+ghost use Rattle.rs_plans.specs.Readings.{index_in, item_in};
+ghost use Rattle.rs_plans.specs.Steps.{query, whole};
 ghost use Rattle.plan_laws.specs.Agree.{Agrees, ValuesAgree};
-ghost use Rattle.plan_laws.specs.Texts.{HasCrate};
+ghost use Rattle.plan_laws.specs.Texts.{HasCrate, HasItem};
 
-use rs_grammar::trees_are_tidy;
+use rs_grammar::{items_parse_again, trees_are_tidy};
 use rs_text::texts_are_read;
 
 /// The query of the index gives the index of a text's tree, which is read back as it, and where the text has a fault, that.
@@ -35,6 +39,34 @@ pub fn indexes_are_valued()
 {
     texts_are_read();
     trees_are_tidy();
+}
+
+/// The query of an item gives its form, which is read back as it.
+pub fn items_are_valued()
+    ensures form { (setting text : List ℕ) (krate : Crate) (p : Placed) → HasCrate text krate → HasItem krate p → denote (plan_of setting) text (query 2 (place_of p)) ≡ item_form p.item }
+    ensures read { (setting text : List ℕ) (krate : Crate) (p : Placed) → HasCrate text krate → HasItem krate p → item_in (denote (plan_of setting) text (query 2 (place_of p))) ≡ Some p.item }
+{
+    texts_are_read();
+    trees_are_tidy();
+    items_parse_again();
+}
+
+/// The query of a signature gives that of the item, whose kind is the one that the index has.
+pub fn signatures_are_valued()
+    ensures { (setting text : List ℕ) (krate : Crate) (p : Placed) → HasCrate text krate → HasItem krate p → denote (plan_of setting) text (query 3 (place_of p)) ≡ sig_form (sig_of (items_of krate) p).1 }
+{
+    texts_are_read();
+    trees_are_tidy();
+    items_parse_again();
+}
+
+/// The query of an item's calls gives the functions that it calls, as the clean build's definitions have them.
+pub fn calls_are_valued()
+    ensures { (setting text : List ℕ) (krate : Crate) (p : Placed) → HasCrate text krate → HasItem krate p → denote (plan_of setting) text (query 6 (place_of p)) ≡ places_form (calls_of (items_of krate) (answered (items_of krate) p)).1 }
+{
+    texts_are_read();
+    trees_are_tidy();
+    items_parse_again();
 }
 
 /// What is wrong with an item depends on the signatures of the items that its paths lead to, and on no others: two lists of

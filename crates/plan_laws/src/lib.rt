@@ -5,4 +5,7 @@
 
 mod laws;
 
-pub use laws::{forms_need_named_items, indexes_are_valued, wrongs_need_named_items};
+pub use laws::{
+    calls_are_valued, forms_need_named_items, indexes_are_valued, items_are_valued,
+    signatures_are_valued, wrongs_need_named_items,
+};

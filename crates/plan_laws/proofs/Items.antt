@@ -39,11 +39,11 @@ use Rattle.plan_laws.proofs.Index.{index_read, tidy_tree}
 
 -- ---- An item is found by its place.
 
-rest_distinct : {X : Type 0} (x : X) (xs : List X) → Distinct (x ∷ xs) → Distinct xs
+pub rest_distinct : {X : Type 0} (x : X) (xs : List X) → Distinct (x ∷ xs) → Distinct xs
 rest_distinct x xs d before y rest e has = d (x ∷ before) y rest (ap (λ zs. x ∷ zs) e) (suc has.0, omega (arith, has.1), has.2)
 
 -- none before it stands at its place
-others : (b : Placed) (before rest : List Placed) (p : Placed) → Distinct (map place_in (b ∷ before ++ p ∷ rest)) → same (place_in p) (place_in b) ≡ true → ⊥
+pub others : (b : Placed) (before rest : List Placed) (p : Placed) → Distinct (map place_in (b ∷ before ++ p ∷ rest)) → same (place_in p) (place_in b) ≡ true → ⊥
 others b before rest p d e = d (place_in b ∷ map place_in before) (place_in p) (map place_in rest) (ap (λ l. place_in b ∷ l) (map-append place_in before (p ∷ rest))) (0, omega arith, sym (same_is (place_in p) (place_in b) e))
 
 item_there : (before rest : List Placed) (p : Placed) → Distinct (map place_in (before ++ p ∷ rest)) → item_in_place (place_in p) (before ++ p ∷ rest) ≡ Some p.item
@@ -54,10 +54,10 @@ item_there (b ∷ before) rest p d = by (same (place_in p) (place_in b)) refl (i
     by true e more = absurd (others b before rest p d e)
     by false e more = more
 
-abbrev indexed : List Placed → List IndexItem
+abbrev pub indexed : List Placed → List IndexItem
 indexed ps = map index_item (map plain_placed ps)
 
-index_there : (before rest : List Placed) (p : Placed) → Distinct (map place_in (before ++ p ∷ rest)) → item_at (place_in p) (indexed (before ++ p ∷ rest)) ≡ Some (index_item (plain_placed p))
+pub index_there : (before rest : List Placed) (p : Placed) → Distinct (map place_in (before ++ p ∷ rest)) → item_at (place_in p) (indexed (before ++ p ∷ rest)) ≡ Some (index_item (plain_placed p))
 index_there [] rest p d = ap (λ b. if b then Some (index_item (plain_placed p)) else item_at (place_in p) (indexed rest)) (same_self (place_in p))
 index_there (b ∷ before) rest p d = by (same (place_in p) (place_in b)) refl (index_there before rest p (rest_distinct (place_in b) (map place_in (before ++ p ∷ rest)) d))
   where

@@ -5,3 +5,5 @@ pub mod Agree
 pub mod Wrong
 pub mod Lowering
 pub mod Items
+pub mod Lookups
+pub mod Checks

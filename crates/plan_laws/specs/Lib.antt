@@ -1,3 +1,4 @@
 pub mod Agree
 pub mod Assembled
 pub mod Texts
+pub mod Whole

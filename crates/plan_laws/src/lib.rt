@@ -4,8 +4,10 @@
 #![tactic(auto)]
 
 mod laws;
+mod outcomes;
 
 pub use laws::{
     calls_are_valued, forms_need_named_items, indexes_are_valued, items_are_valued,
     signatures_are_valued, wrongs_need_named_items,
 };
+pub use outcomes::diagnostics_are_valued;

@@ -67,38 +67,10 @@ sig_back : (sig : Sig) → FitsSig sig → sig_in (sig_form sig) ≡ Some sig
 unfolding sig_in
 sig_back sig fits = read_back FitsSig sig_form sig (forms_are_answered.sig (sig_form sig)).0 fits (forms_are_answered.sig (sig_form sig)).1
 
-module _ (texts : TextIs) (plain : NamesArePlain) (trees : TreesAreTidy) (parses : ParsedIs) (again : ItemsParseAgain) (setting text : List ℕ) (krate : Crate) (has : HasCrate text krate) (whole_tree : HasItems krate) where
-  abbrev v : Query → List ℕ
-  v = valued setting text
-
-  -- an item of the tree is in the ranges of its types
-  pub its : (ps : List Placed) (p : Placed) (before rest : List Placed) → ps ≡ before ++ p ∷ rest → AllByRecursion FitsPlaced ps → FitsPlaced p
-  its ps p before rest is h = at_split FitsPlaced before p rest (subst (AllByRecursion FitsPlaced) is h)
-
-  pub item_of : (p : Placed) (before rest : List Placed) → krate.items ≡ before ++ p ∷ rest → HasItem krate p
-  item_of p before rest is = (let fits = its krate.items p before rest is whole_tree.each in record { before = before; rest = rest; is = is; tokens = fits.tokens; lexed = fits.lexed })
-
-  -- the signature of an item is read as the one that the tree has
+module _ (krate : Crate) where
+  -- the signature of an item, as the tree has it
   abbrev pub HasSig : Place → Sig → Type 0
   HasSig q sig = sig_at (place_name q) (sigs_of krate) ≡ Some sig
-
-  sig_of_item : (q : Place) (is : IsPlaced krate.items (place_name q)) → (sig : Sig) × (sig_in (v (query 3 q)) ≡ Some sig) × HasSig q sig
-  sig_of_item q is =
-      let p = is.placed in
-      let items = items_of krate in
-      let sig = (sig_of items p).1 in
-      let fits = its krate.items p is.before is.rest is.is whole_tree.each in
-      let at : place_of p ≡ q = ap (λ n. record { «module» = n.0; name = n.1 }) is.at in
-      let ranges : FitsSig sig = record { kind = kind_fits items (place_of p) has.index.items.each; params = fits.params } in
-      let given = sig_given texts trees setting text krate has p (item_of p is.before is.rest is.is) parses again in
-      let there = sig_there items is.before is.rest p (subst (λ ps. Distinct (map place_in ps)) is.is (tidy_tree texts trees text krate has.is).items) in (
-        sig,
-        ap (λ q. sig_in (v (query 3 q))) (sym at) ∙ ap sig_in given ∙ sig_back sig ranges,
-        ap (λ n. sig_at n (sigs_of krate)) (sym is.at) ∙ ap (λ ps. sig_at (place_in p) (map (sig_of items) ps)) is.is ∙ there,
-      )
-
-  sig_read : (q : Place) → IsItem (items_of krate) q → (sig : Sig) × (sig_in (v (query 3 q)) ≡ Some sig) × HasSig q sig
-  sig_read q item = sig_of_item q (found_placed (place_name q) krate.items item.0 item.1)
 
   -- where each named item's signature was read, the signatures agree with those of the tree
   agree : (reads : List (Place × Sig)) → AllByRecursion (λ (x : Place × Sig). HasSig x.0 x.1) reads → (b : Found) → IsIn (map (λ (x : Place × Sig). x.0) reads) b → Agrees reads (sigs_of krate) b
@@ -110,6 +82,36 @@ module _ (texts : TextIs) (plain : NamesArePlain) (trees : TreesAreTidy) (parses
   pub all_agree : (reads : List (Place × Sig)) (fs : List Found) → map (λ (x : Place × Sig). x.0) reads ≡ named_items fs → AllByRecursion (λ (x : Place × Sig). HasSig x.0 x.1) reads → AllByRecursion (Agrees reads (sigs_of krate)) fs
   all_agree reads fs places h = all_weaker (agree reads h) fs (subst (λ ps. AllByRecursion (IsIn ps) fs) (sym places) (named_in fs))
 
+-- an item of the tree is in the ranges of its types
+its : (ps : List Placed) (p : Placed) (before rest : List Placed) → ps ≡ before ++ p ∷ rest → AllByRecursion FitsPlaced ps → FitsPlaced p
+its ps p before rest is h = at_split FitsPlaced before p rest (subst (AllByRecursion FitsPlaced) is h)
+
+module _ (texts : TextIs) (plain : NamesArePlain) (trees : TreesAreTidy) (parses : ParsedIs) (again : ItemsParseAgain) (setting text : List ℕ) (krate : Crate) (has : HasCrate text krate) (whole_tree : HasItems krate) where
+  abbrev v : Query → List ℕ
+  v = valued setting text
+
+  pub item_of : (p : Placed) (before rest : List Placed) → krate.items ≡ before ++ p ∷ rest → HasItem krate p
+  item_of p before rest is = (let fits = its krate.items p before rest is whole_tree.each in record { before = before; rest = rest; is = is; tokens = fits.tokens; lexed = fits.lexed })
+
+  pub sig_known : (q : Place) (is : IsPlaced krate.items (place_name q)) → HasSig krate q (sig_of (items_of krate) is.placed).1
+  sig_known q is =
+      let items = items_of krate in
+      ap (λ n. sig_at n (sigs_of krate)) (sym is.at) ∙ ap (λ ps. sig_at (place_in is.placed) (map (sig_of items) ps)) is.is
+      ∙ sig_there items is.before is.rest is.placed (subst (λ ps. Distinct (map place_in ps)) is.is (tidy_tree texts trees text krate has.is).items)
+
+  -- it is read as the one that the tree has
+  pub sig_of_item : (q : Place) (is : IsPlaced krate.items (place_name q)) → sig_in (v (query 3 q)) ≡ Some (sig_of (items_of krate) is.placed).1
+  sig_of_item q is =
+      let p = is.placed in
+      let items = items_of krate in
+      let fits = its krate.items p is.before is.rest is.is whole_tree.each in
+      let at : place_of p ≡ q = ap (λ n. record { «module» = n.0; name = n.1 }) is.at in
+      let ranges : FitsSig (sig_of items p).1 = record { kind = kind_fits items (place_of p) has.index.items.each; params = fits.params } in
+      ap (λ q. sig_in (v (query 3 q))) (sym at) ∙ ap sig_in (sig_given texts trees setting text krate has p (item_of p is.before is.rest is.is) parses again) ∙ sig_back (sig_of items p).1 ranges
+
+  sig_read : (q : Place) → IsItem (items_of krate) q → (sig : Sig) × (sig_in (v (query 3 q)) ≡ Some sig) × HasSig krate q sig
+  sig_read q item = (let is = found_placed (place_name q) krate.items item.0 item.1 in ((sig_of (items_of krate) is.placed).1, sig_of_item q is, sig_known q is))
+
   -- ---- Diagnostics.
 
   module _ (p : Placed) (it : HasItem krate p) (value : Option Value) where
@@ -119,8 +121,8 @@ module _ (texts : TextIs) (plain : NamesArePlain) (trees : TreesAreTidy) (parses
     abbrev found : List Found
     found = (answered items p).1
 
-    named : AllRead v (query 3) (λ q. sig_in) HasSig (named_items found)
-    named = all_read v (query 3) (λ q. sig_in) HasSig (named_items found) (all_weaker sig_read (named_items found) (named_there items p.«module» (definition p.item.body)))
+    named : AllRead v (query 3) (λ q. sig_in) (HasSig krate) (named_items found)
+    named = all_read v (query 3) (λ q. sig_in) (HasSig krate) (named_items found) (all_weaker sig_read (named_items found) (named_there items p.«module» (definition p.item.body)))
 
     -- the lines of what is wrong with an item of this body
     abbrev told : Definition path.Path → List (Place × Sig) → Option Value → List Diag
@@ -128,7 +130,7 @@ module _ (texts : TextIs) (plain : NamesArePlain) (trees : TreesAreTidy) (parses
 
     told_same : (d : Definition path.Path) (given : Option Value) → told d named.reads given ≡ told d (sigs_of krate) given
     told_same d given =
-        ap lines (wrong_same items named.reads (sigs_of krate) p.«module» found given (record { public = p.item.public; name = p.item.name; at = p.item.at; tokens = p.item.tokens; body = d }) (all_agree named.reads found named.places named.so))
+        ap lines (wrong_same items named.reads (sigs_of krate) p.«module» found given (record { public = p.item.public; name = p.item.name; at = p.item.at; tokens = p.item.tokens; body = d }) (all_agree krate named.reads found named.places named.so))
 
     by_body : (d : Definition path.Path) → IsKnown v (place_of p) value d
         → given v (if is_constant d then ask (query 4 (place_of p)) const_in (λ x. Give (diags_form (told d named.reads (Some x)))) else Give (diags_form (told d named.reads None))) ≡ diags_form (told d (sigs_of krate) value)
@@ -146,5 +148,5 @@ module _ (texts : TextIs) (plain : NamesArePlain) (trees : TreesAreTidy) (parses
         by_plan setting text (query 5 (place_of p)) (omega arith) ∙ ap (given v) planned
         ∙ given_ask v (query 2 (place_of p)) item_in (λ item. ask (whole 1) index_in (check_from (place_of p) item)) p.item (item_read texts trees setting text krate has p it parses again)
         ∙ given_ask v (whole 1) index_in (check_from (place_of p) p.item) (tree_index krate) (index_read plain texts trees setting text krate has)
-        ∙ given_reads v (query 3) (λ q. sig_in) HasSig (named_items found) (check_of (place_of p) p.item (tree_index krate)) named
+        ∙ given_reads v (query 3) (λ q. sig_in) (HasSig krate) (named_items found) (check_of (place_of p) p.item (tree_index krate)) named
         ∙ by_body (definition p.item.body) known

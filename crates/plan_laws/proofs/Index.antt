@@ -67,7 +67,7 @@ index_passes plain krate tidy =
     (all_pass is_module krate.modules (modules_pass plain krate.modules tidy.names))
     (items_pass plain krate.modules tidy.names krate.items tidy.listed tidy.named)
 
-passes : {X : Type 0} (test : X → Bool) (o : Option X) (x : X) → o ≡ Some x → test x ≡ true → passed test o ≡ Some x
+pub passes : {X : Type 0} (test : X → Bool) (o : Option X) (x : X) → o ≡ Some x → test x ≡ true → passed test o ≡ Some x
 passes test o x is so = ap (passed test) is ∙ ap (λ b. if b then Some x else None) so
 
 -- it is read as itself

@@ -7,3 +7,5 @@ pub mod Lowering
 pub mod Items
 pub mod Lookups
 pub mod Checks
+pub mod Forms
+pub mod Objects

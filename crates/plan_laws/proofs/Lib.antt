@@ -9,3 +9,5 @@ pub mod Lookups
 pub mod Checks
 pub mod Forms
 pub mod Objects
+pub mod Steady
+pub mod Restricted

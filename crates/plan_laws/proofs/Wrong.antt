@@ -37,7 +37,7 @@ leaves_agree one other found [] h = tt
 leaves_agree one other [] (p ∷ ps) h = (tt, leaves_agree one other [] ps tt)
 leaves_agree one other (b ∷ bs) (p ∷ ps) h = (h.0, leaves_agree one other bs ps h.1)
 
-exp_agrees : (one other : List (Place × Sig)) (found : List Found) (e : Exp path.Path) → AnswersAgree one other found → AllAgree one other (leaves (filled f.Absent found e))
+pub exp_agrees : (one other : List (Place × Sig)) (found : List Found) (e : Exp path.Path) → AnswersAgree one other found → AllAgree one other (leaves (filled f.Absent found e))
 exp_agrees one other found e h = subst (AllAgree one other) (sym (of_expression f.Absent found e)) (leaves_agree one other found (leaves e) h)
 
 tail_agrees : (one other : List (Place × Sig)) (found : List Found) (o : Option (Exp path.Path)) → AnswersAgree one other found → AllAgree one other (leaves_in (filled_in f.Absent found o))

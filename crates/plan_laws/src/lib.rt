@@ -10,4 +10,6 @@ pub use laws::{
     calls_are_valued, forms_need_named_items, indexes_are_valued, items_are_valued,
     signatures_are_valued, wrongs_need_named_items,
 };
-pub use outcomes::{diagnostics_are_valued, forms_are_valued, objects_are_valued};
+pub use outcomes::{
+    constants_need_named_ones, diagnostics_are_valued, forms_are_valued, objects_are_valued,
+};

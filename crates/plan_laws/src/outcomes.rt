@@ -5,7 +5,7 @@ ghost use Rattle.rs_tree.specs.declared.index.Sig.{Sig};
 ghost use Rattle.rs_tree.specs.declared.ir.Ir.{Ir};
 ghost use Rattle.rs_tree.specs.declared.place.Place.{Place};
 ghost use Rattle.std.specs.List.{AllByRecursion, list_any};
-ghost use Rattle.rs_const.specs.Constants.{AreValues};
+ghost use Rattle.rs_const.specs.Constants.{AreValues, Entry};
 ghost use Rattle.rs_object.specs.Forms.{object_form};
 ghost use Rattle.rs_emit.specs.Objects.{object_of};
 ghost use Rattle.rs_queries.specs.Built.{consts_of, form_of};
@@ -19,9 +19,11 @@ ghost use Rattle.rs_tree.specs.declared.tree.Placed.{Placed};
 ghost use Rattle.rs_tree.specs.Plain.{definition, plain_item};
 ghost use Rattle.rs_answers.specs.Forms.{diags_form};
 ghost use Rattle.rs_check.specs.Items.{item_wrongs, lines};
-ghost use Rattle.rs_queries.specs.Known.{Answered, answered, constants_of, items_of, place_of, sigs_of};
+ghost use Rattle.rs_queries.specs.Known.{Answered, answered, constants_of, items_of, place_of, sigs_of, value_at};
 ghost use Rattle.rs_plans.specs.Plans.{is_constant, is_wrong, level_of, named_items, plan_of};
 ghost use Rattle.rs_plans.specs.Steps.{query};
+ghost use Rattle.rs_lookup.specs.Places.{place_name};
+ghost use Rattle.plan_laws.specs.Agree.{EntriesAgree, entry_at};
 ghost use Rattle.plan_laws.specs.Texts.{HasCrate, HasItem};
 ghost use Rattle.plan_laws.specs.Whole.{AreUsable, HasItems, IsKnown};
 
@@ -59,4 +61,11 @@ pub fn objects_are_valued()
     ensures { (setting text unit : List ℕ) (members : List (Place × Ir)) → places_in (denote (plan_of setting) text (record { kind = 8; «module» = unit; name = [] })) ≡ Some (map (λ (m : Place × Ir). m.0) members)
         → AllByRecursion (λ (m : Place × Ir). ir_in (denote (plan_of setting) text (query 9 m.0)) ≡ Some m.1) members
         → denote (plan_of setting) text (record { kind = 10; «module» = unit; name = [] }) ≡ object_form (object_of unit members) }
+{}
+
+/// The value of a constant depends on the constants that it reaches, and on no others: where each name in the expressions of a list
+/// of constants leads to the same constant of another list, or to none of either, a constant that both have has one value.
+pub fn constants_need_named_ones()
+    ensures { (one other : List Entry) (values more : List Const) → AreValues one values → AreValues other more → AllByRecursion (λ (e : Entry). AllByRecursion (EntriesAgree one other) e.2) one
+        → (at : Place) → entry_at (place_name at) one ≡ entry_at (place_name at) other → value_at one values at ≡ value_at other more at }
 {}

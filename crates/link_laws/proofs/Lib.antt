@@ -2,11 +2,11 @@ mod Calls
 mod Errors
 mod Images
 mod Linking
-mod Lists
+pub mod Lists
 mod Lowered
-mod Makes
-mod Members
+pub mod Makes
+pub mod Members
 mod Names
 mod Objects
-mod Places
+pub mod Places
 mod Symbols

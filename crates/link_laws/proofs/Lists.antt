@@ -103,7 +103,7 @@ each_weaker P Q (x ∷ xs) f h = (f x h.0, each_weaker P Q xs f h.1)
 
 -- ---- Lists in which nothing stands twice.
 
-split : {X : Type 0} (xs : List X) (x : X) → Contains xs x → (before : List X) × (rest : List X) × (xs ≡ before ++ x ∷ rest)
+pub split : {X : Type 0} (xs : List X) (x : X) → Contains xs x → (before : List X) × (rest : List X) × (xs ≡ before ++ x ∷ rest)
 split [] x h = absurd (omega (arith, h.1))
 split (y ∷ xs) x (zero, l, e) = ([], xs, ap (λ z. z ∷ xs) e)
 split (y ∷ xs) x (suc k, l, e) = (let cut = split xs x (k, omega (arith, l), e) in (y ∷ cut.0, cut.1, ap (λ zs. y ∷ zs) cut.2))

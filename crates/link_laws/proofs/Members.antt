@@ -85,7 +85,7 @@ found_of krate p = answers_of (items_of krate) p.«module» (definition p.item.b
 abbrev pub called_of : Crate → Placed → List Place
 called_of krate p = called (definition_marks (definition p.item.body)) (found_of krate p)
 
-abbrev callees : Crate → Placed → List Place
+abbrev pub callees : Crate → Placed → List Place
 callees krate p = calls_in (items_of krate) (definition p.item.body) (found_of krate p)
 
 call_places : (items : List IndexItem) (ps : List Placed) → call_names (map (calls_of items) (map (answered items) ps)) ≡ map place_in ps
@@ -100,14 +100,14 @@ module _ (krate : Crate) (tidy : IsTidyCrate krate) where
   asks = ask (names_in krate) (calls krate)
 
   -- the calls of each item are known
-  asked : (i : ℕ) (p : Placed) → slice_get krate.items i ≡ Some p → asks i ≡ Some (numbers (names_in krate) (callees krate p))
-  asked i p e =
-      let named : slice_get (call_names (calls krate)) i ≡ Some (place_in p) = ap (λ ns. slice_get ns i) (call_places items krate.items) ∙ got_map place_in krate.items i p e in
+  pub calls_known : (i : ℕ) (p : Placed) → slice_get krate.items i ≡ Some p → calls_at (calls krate) (place_in p) ≡ Some (callees krate p)
+  calls_known i p e =
       let found : place_from (place_in p) 0 (call_names (calls krate)) ≡ Some i = ap (place_from (place_in p) 0) (call_places items krate.items) ∙ place_found (place_in p) (map place_in krate.items) i (places_differ krate tidy) (got_map place_in krate.items i p e) in
       let here : slice_get (calls krate) i ≡ Some (place_of p, callees krate p) = got_map (calls_of items) (map (answered items) krate.items) i (answered items p) (got_map (answered items) krate.items i p e) in
-      ap (λ o. option_map (numbers (names_in krate)) (option_and_then (calls_at (calls krate)) o)) (name_numbered krate tidy i p e)
-      ∙ ap (λ o. option_map (numbers (names_in krate)) (option_and_then (λ j. option_map (λ (c : Place × List Place). c.1) (slice_get (calls krate) j)) o)) found
-      ∙ ap (λ o. option_map (numbers (names_in krate)) (option_map (λ (c : Place × List Place). c.1) o)) here
+      ap (option_and_then (λ j. option_map (λ (c : Place × List Place). c.1) (slice_get (calls krate) j))) found ∙ ap (option_map (λ (c : Place × List Place). c.1)) here
+
+  asked : (i : ℕ) (p : Placed) → slice_get krate.items i ≡ Some p → asks i ≡ Some (numbers (names_in krate) (callees krate p))
+  asked i p e = ap (λ o. option_map (numbers (names_in krate)) (option_and_then (calls_at (calls krate)) o)) (name_numbered krate tidy i p e) ∙ ap (option_map (numbers (names_in krate))) (calls_known i p e)
 
   -- a function that an item calls is among its calls
   called_number : (p q : Placed) (j : ℕ) → slice_get krate.items j ≡ Some q → is_function (the_item q) ≡ true → Contains (called_of krate p) (place_of q) → Contains (numbers (names_in krate) (callees krate p)) j

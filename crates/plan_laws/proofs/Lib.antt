@@ -11,3 +11,6 @@ pub mod Forms
 pub mod Objects
 pub mod Steady
 pub mod Restricted
+pub mod Places
+pub mod Searched
+pub mod Used

@@ -1,12 +1,13 @@
 //! What the queries of a text give.
 
-ghost use Rattle.std.specs.Prelude.{◌≡◌, ℕ, List, Option, Some, Ok, Err};
+ghost use Rattle.std.specs.Prelude.{◌≡◌, ℕ, List, [], map, Option, Some, Ok, Err};
 ghost use Rattle.std.specs.List.{AllByRecursion};
 ghost use Rattle.inc_query.specs.Plans.{denote};
 ghost use Rattle.rs_tree.specs.declared.answers.Const.{Const};
 ghost use Rattle.rs_tree.specs.declared.answers.Found.{Found};
 ghost use Rattle.rs_tree.specs.declared.index.IndexItem.{IndexItem};
 ghost use Rattle.rs_tree.specs.declared.index.Sig.{Sig};
+ghost use Rattle.rs_tree.specs.declared.ir.Ir.{Ir};
 ghost use Rattle.rs_tree.specs.declared.place.Place.{Place};
 ghost use Rattle.rs_tree.specs.declared.tree.Crate.{Crate};
 ghost use Rattle.rs_tree.specs.declared.tree.Item.{Item};
@@ -19,17 +20,21 @@ ghost use Rattle.rs_forms.specs.Forms.{fault_form, index_form, item_form, sig_fo
 ghost use Rattle.rs_answers.specs.Forms.{places_form};
 ghost use Rattle.rs_check.specs.Items.{item_wrongs};
 ghost use Rattle.rs_lower.specs.Lowered.{lowered};
-ghost use Rattle.rs_queries.specs.Built.{tree_index};
+ghost use Rattle.rs_reach.specs.Dead.{dead_of};
+ghost use Rattle.rs_units.specs.Members.{members_of};
+ghost use Rattle.rs_queries.specs.Built.{consts_of, form_of, members_in, tree_index};
 ghost use Rattle.rs_queries.specs.Diagnosed.{calls_of};
-ghost use Rattle.rs_queries.specs.Known.{answered, items_of, place_of, sig_of};
+ghost use Rattle.rs_queries.specs.Known.{all_answered, answered, constants_of, items_of, place_of, sig_of, sigs_of};
 ghost use Rattle.rs_plans.specs.Plans.{index_fault, plan_of};
-ghost use Rattle.rs_plans.specs.Readings.{index_in, item_in};
+ghost use Rattle.rs_plans.specs.Readings.{index_in, item_in, places_in};
 ghost use Rattle.rs_plans.specs.Steps.{query, whole};
 ghost use Rattle.plan_laws.specs.Agree.{Agrees, ValuesAgree};
 ghost use Rattle.plan_laws.specs.Texts.{HasCrate, HasItem};
+ghost use Rattle.plan_laws.specs.Whole.{HasItems};
 
 use rs_grammar::{items_parse_again, trees_are_tidy};
 use rs_text::texts_are_read;
+use rs_units::members_are_reached;
 
 /// The query of the index gives the index of a text's tree, which is read back as it, and where the text has a fault, that.
 pub fn indexes_are_valued()
@@ -67,6 +72,29 @@ pub fn calls_are_valued()
     texts_are_read();
     trees_are_tidy();
     items_parse_again();
+}
+
+/// The query of functions that are never used gives those that the clean build warns of, though it asks for the calls of those functions alone that
+/// it finds.
+pub fn dead_functions_are_valued()
+    ensures { (setting text : List ℕ) (krate : Crate) → HasCrate text krate → HasItems krate → denote (plan_of setting) text (whole 7) ≡ places_form (dead_of (items_of krate) (map (calls_of (items_of krate)) (all_answered krate))) }
+{
+    texts_are_read();
+    trees_are_tidy();
+    items_parse_again();
+}
+
+/// The query of a unit's members gives those of which the clean build makes its object, and is read back as they.
+pub fn members_are_valued()
+    ensures form { (setting text : List ℕ) (krate : Crate) (unit : List ℕ) → HasCrate text krate → HasItems krate → denote (plan_of setting) text (record { kind = 8; «module» = unit; name = [] }) ≡ places_form (members_of unit (items_of krate) (map (calls_of (items_of krate)) (all_answered krate))) }
+    ensures read { (setting text : List ℕ) (krate : Crate) (unit : List ℕ) → HasCrate text krate → HasItems krate → places_in (denote (plan_of setting) text (record { kind = 8; «module» = unit; name = [] })) ≡ Some (members_of unit (items_of krate) (map (calls_of (items_of krate)) (all_answered krate))) }
+    ensures clean { (krate : Crate) (level : ℕ) (values : List Const) (unit : List ℕ) → members_of unit (items_of krate) (map (calls_of (items_of krate)) (all_answered krate))
+        ≡ map (λ (m : Place × Ir). m.0) (members_in (items_of krate) (map (calls_of (items_of krate)) (all_answered krate)) (map (form_of level (sigs_of krate) (consts_of (constants_of krate) values)) (all_answered krate)) unit) }
+{
+    texts_are_read();
+    trees_are_tidy();
+    items_parse_again();
+    members_are_reached();
 }
 
 /// What is wrong with an item depends on the signatures of the items that its paths lead to, and on no others: two lists of

@@ -7,8 +7,8 @@ mod laws;
 mod outcomes;
 
 pub use laws::{
-    calls_are_valued, forms_need_named_items, indexes_are_valued, items_are_valued,
-    signatures_are_valued, wrongs_need_named_items,
+    calls_are_valued, dead_functions_are_valued, forms_need_named_items, indexes_are_valued,
+    items_are_valued, members_are_valued, signatures_are_valued, wrongs_need_named_items,
 };
 pub use outcomes::{
     constants_need_named_ones, diagnostics_are_valued, forms_are_valued, objects_are_valued,

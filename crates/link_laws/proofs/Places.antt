@@ -103,7 +103,7 @@ the_item p = index_item (plain_placed p)
 abbrev pub names_in : Crate → List Name
 names_in krate = map item_name (items_of krate)
 
-placed_names : (ps : List Placed) → map item_name (map index_item (map plain_placed ps)) ≡ map place_in ps
+pub placed_names : (ps : List Placed) → map item_name (map index_item (map plain_placed ps)) ≡ map place_in ps
 placed_names [] = refl
 placed_names (p ∷ ps) = ap (λ ns. place_in p ∷ ns) (placed_names ps)
 

@@ -14,3 +14,6 @@ pub mod Restricted
 pub mod Places
 pub mod Searched
 pub mod Used
+pub mod Unused
+pub mod Told
+pub mod Whole

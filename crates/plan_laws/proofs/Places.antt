@@ -40,11 +40,11 @@ item_passes [] h i x e = absurd (cc)
 item_passes (y ∷ items) h zero x e = (let is : y ≡ x = cc in ap is_item_place (sym is) ∙ left_of (is_item_place y) (list_all is_item_place items) h)
 item_passes (y ∷ items) h (suc i) x e = item_passes items (right_of (is_item_place y) (list_all is_item_place items) h) i x e
 
-each_of : {X : Type 0} (P : X → Type 0) (xs : List X) → AllByRecursion P xs → Each P xs
+pub each_of : {X : Type 0} (P : X → Type 0) (xs : List X) → AllByRecursion P xs → Each P xs
 each_of P [] h = tt
 each_of P (x ∷ xs) h = (h.0, each_of P xs h.1)
 
-neither : (a b : Bool) → a ≡ false → b ≡ false → (a || b) ≡ false
+pub neither : (a b : Bool) → a ≡ false → b ≡ false → (a || b) ≡ false
 neither true b e f = absurd (cc)
 neither false b e f = f
 

@@ -2,3 +2,4 @@ pub mod Agree
 pub mod Assembled
 pub mod Texts
 pub mod Whole
+pub mod Roots

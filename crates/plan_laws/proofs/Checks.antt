@@ -34,7 +34,7 @@ use Rattle.rs_plans.specs.Steps.{ask, ask_each, query, whole}
 use Rattle.rs_plans.proofs.Fresh.{all_weaker}
 use Rattle.plan_laws.specs.Agree.{Agrees}
 use Rattle.plan_laws.specs.Texts.{HasCrate, HasItem}
-use Rattle.plan_laws.specs.Whole.{FitsPlaced, HasItems, IsKnown}
+use Rattle.plan_laws.specs.Whole.{FitsPlaced, HasItems}
 use Rattle.plan_laws.proofs.Given.{AreRead, by_plan, given_ask, given_each, valued}
 use Rattle.plan_laws.proofs.Index.{index_read, tidy_tree}
 use Rattle.plan_laws.proofs.Items.{item_read, sig_given}
@@ -60,6 +60,11 @@ all_read v of read R (p ∷ ps) h =
 pub given_reads : {A : Type 0} (v : Query → List ℕ) (of : Place → Query) (read : Place → List ℕ → Option A) (R : Place → A → Type 0) (ps : List Place) (more : List (Place × A) → Plan) (r : AllRead v of read R ps)
     → given v (ask_each of read ps more) ≡ given v (more r.reads)
 given_reads v of read R ps more r = ap (λ l. given v (ask_each of read l more)) (sym r.places) ∙ given_each v of read r.reads more r.are
+
+-- of a constant, the value that its query gives; of a function, any
+abbrev pub IsKnown : (Query → List ℕ) → Place → Option Value → Definition path.Path → Type 0
+IsKnown v at value (Const typ e) = (c : Value) × (value ≡ Some c) × (const_in (v (query 4 at)) ≡ Some c)
+IsKnown v at value (Func inlined params gives stmts tail) = Unit {0}
 
 -- ---- Signatures.
 

@@ -1,7 +1,7 @@
 -- The intermediate forms of functions.
 use Rattle.std.proofs.Common.{◌≡◌, ℕ, zero, suc, ◌==◌, ◌||◌, ◌&&◌, Bool, true, false, not, List, [], ◌∷◌, length, map, refl, sym, ap, subst, ◌∙◌, arith, inl, inr, if◌then◌else◌}
 use Rattle.std.specs.Prelude.{Option, Some, None, Ok, Err, is_none, slice_get, option_and_then, unwrap_or}
-use Rattle.std.specs.List.{AllByRecursion, Contains, cons_option, filter_map, list_any}
+use Rattle.std.specs.List.{AllByRecursion, Contains, cons_option, list_any}
 use Rattle.std.specs.Option.{option_map, option_map_or}
 use Rattle.std.proofs.lemmas.Bool.Decides.{Decides-eqb}
 use Rattle.std.proofs.lemmas.Option.{slice_get_cases, slice_get_within}
@@ -28,7 +28,7 @@ use Rattle.rs_tree.specs.declared.tree.Typ.{Typ}
 use Rattle.rs_tree.specs.declared.tree.Typ.TheVariants as t
 use Rattle.rs_tree.specs.Plain.{Exp, Definition, Const, Func, definition, plain_item, plain_placed}
 use Rattle.rs_grammar.specs.Again.{ItemsParseAgain}
-use Rattle.rs_grammar.specs.Tidy.{Distinct, NamesArePlain, TreesAreTidy, place_in}
+use Rattle.rs_grammar.specs.Tidy.{NamesArePlain, TreesAreTidy}
 use Rattle.rs_text.specs.Laws.{ParsedIs, TextIs}
 use Rattle.rs_forms.specs.Fits.{FitsIr}
 use Rattle.rs_forms.specs.Forms.{ir_form}
@@ -53,12 +53,12 @@ use Rattle.rs_plans.specs.Steps.{ask, query, whole}
 use Rattle.rs_plans.proofs.Fresh.{all_weaker, same_is}
 use Rattle.plan_laws.specs.Agree.{Agrees, ValuesAgree}
 use Rattle.plan_laws.specs.Texts.{HasCrate, HasItem}
-use Rattle.plan_laws.specs.Whole.{AreUsable, HasItems, IsUsable}
+use Rattle.plan_laws.specs.Whole.{HasItems, IsUsable}
 use Rattle.plan_laws.proofs.Checks.{AllRead, HasSig, all_agree, all_read, given_reads, sig_known, sig_of_item}
 use Rattle.plan_laws.proofs.Given.{by_plan, given_ask, valued}
 use Rattle.plan_laws.proofs.Index.{index_read, passes, tidy_tree}
 use Rattle.plan_laws.proofs.Items.{item_read}
-use Rattle.plan_laws.proofs.Lookups.{IsIn, IsItem, IsPlaced, entry_name, entry_there, first_at, found_in, found_next, found_placed, named_in, named_there, next_at}
+use Rattle.plan_laws.proofs.Lookups.{IsIn, IsItem, IsPlaced, entry_known, entry_name, first_at, found_in, found_next, found_placed, named_in, named_there, next_at}
 use Rattle.plan_laws.proofs.Lowering.{form_same}
 use Rattle.plan_laws.proofs.Tests.{all_pass}
 use Rattle.plan_laws.proofs.Wrong.{wrong_same}
@@ -163,14 +163,18 @@ numbered known values long q e h = by (place_from q 0 (names known)) refl h
 
 -- ---- What a function uses.
 
+-- each of these places that is a constant's has a value, which its query gives
+abbrev pub AreUsable : (Query → List ℕ) → List Entry → List Value → List Place → Type 0
+AreUsable v constants values ps = AllByRecursion (λ q. (c : Value) → value_at constants values q ≡ Some c → IsUsable c × (const_in (v (query 4 q)) ≡ Some c)) ps
+
 -- of an item, as the index has it
-kind_known : (index : Index) (q : Place) (p : Placed) → item_at (place_name q) index.items ≡ Some (index_item (plain_placed p)) → is_constant_at index q ≡ (kind_of (is_root_main p.«module» p.item.name) (definition p.item.body) == 0)
+pub kind_known : (index : Index) (q : Place) (p : Placed) → item_at (place_name q) index.items ≡ Some (index_item (plain_placed p)) → is_constant_at index q ≡ (kind_of (is_root_main p.«module» p.item.name) (definition p.item.body) == 0)
 kind_known index q p at = ap (λ o. option_map_or (λ (x : IndexItem). x.kind == 0) o false) at
 
 public_known : (index : Index) (q : Place) (p : Placed) → item_at (place_name q) index.items ≡ Some (index_item (plain_placed p)) → is_public_at index q ≡ p.item.public
 public_known index q p at = ap (λ o. option_map_or (λ (x : IndexItem). x.public) o false) at
 
-function_kind : (inlined main : Bool) → ((if inlined && not main then 2 else 1) == 0) ≡ false
+pub function_kind : (inlined main : Bool) → ((if inlined && not main then 2 else 1) == 0) ≡ false
 function_kind true true = refl
 function_kind true false = refl
 function_kind false main = refl
@@ -223,7 +227,7 @@ module _ (krate : Crate) (values : List Value) where
   value_agrees us h f.Private e = tt
   value_agrees us h f.Absent e = tt
 
-all_with : {X : Type 0} {P Q R : X → Type 0} → ((x : X) → P x → Q x → R x) → (xs : List X) → AllByRecursion P xs → AllByRecursion Q xs → AllByRecursion R xs
+pub all_with : {X : Type 0} {P Q R : X → Type 0} → ((x : X) → P x → Q x → R x) → (xs : List X) → AllByRecursion P xs → AllByRecursion Q xs → AllByRecursion R xs
 all_with f [] h k = tt
 all_with f (x ∷ xs) h k = (f x h.0 k.0, all_with f xs h.1 k.1)
 
@@ -247,10 +251,7 @@ module _ (texts : TextIs) (plain : NamesArePlain) (trees : TreesAreTidy) (parses
       if b then option_and_then (constant_use (is_public_at index q)) (const_in (v (if b then query 4 q else query 3 q))) else option_map (λ sig. (sig, None)) (sig_in (v (if b then query 4 q else query 3 q)))
 
   entry_at : (q : Place) (is : IsPlaced krate.items (place_name q)) → first_at entry_name (place_name q) (constants_of krate) ≡ entry_of (answered (items_of krate) is.placed)
-  entry_at q is =
-      ap (λ n. first_at entry_name n (constants_of krate)) (sym is.at)
-      ∙ ap (λ ps. first_at entry_name (place_in is.placed) (filter_map entry_of (map (answered (items_of krate)) ps))) is.is
-      ∙ entry_there (items_of krate) is.before is.rest is.placed (subst (λ ps. Distinct (map place_in ps)) is.is (tidy_tree texts trees text krate has.is).items)
+  entry_at q is = entry_known krate (tidy_tree texts trees text krate has.is).items (place_name q) is
 
   const_of_item : (q : Place) (is : IsPlaced krate.items (place_name q)) → const_at (place_name q) (consts_of (constants_of krate) values)
       ≡ option_map (λ (e : Entry). unwrap_or (value_at (constants_of krate) values q) k.Bad) (entry_of (answered (items_of krate) is.placed))

@@ -17,3 +17,5 @@ pub mod Used
 pub mod Unused
 pub mod Told
 pub mod Whole
+pub mod Constants
+pub mod Known

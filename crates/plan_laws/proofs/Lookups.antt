@@ -1,5 +1,5 @@
 -- What is known of items is found by their places.
-use Rattle.std.proofs.Common.{◌≡◌, ℕ, zero, suc, ◌+◌, ◌^◌, ◌<◌, ◌||◌, Bool, true, false, List, [], ◌∷◌, ◌++◌, map, refl, sym, ap, ◌∙◌, arith, if◌then◌else◌}
+use Rattle.std.proofs.Common.{◌≡◌, ℕ, zero, suc, ◌+◌, ◌^◌, ◌<◌, ◌||◌, Bool, true, false, List, [], ◌∷◌, ◌++◌, map, refl, sym, ap, subst, ◌∙◌, arith, if◌then◌else◌}
 use Rattle.std.specs.Prelude.{Option, Some, None, slice_get, option_and_then}
 use Rattle.std.specs.List.{AllByRecursion, Contains, cons_option, filter_map, list_any}
 use Rattle.std.specs.Option.{option_map, option_map_or}
@@ -10,6 +10,7 @@ use Rattle.rs_tree.specs.declared.answers.Found.{Found}
 use Rattle.rs_tree.specs.declared.answers.Found.TheVariants as f
 use Rattle.rs_tree.specs.declared.index.IndexItem.{IndexItem}
 use Rattle.rs_tree.specs.declared.place.Place.{Place}
+use Rattle.rs_tree.specs.declared.tree.Crate.{Crate}
 use Rattle.rs_tree.specs.declared.tree.Path as path
 use Rattle.rs_tree.specs.declared.tree.Placed.{Placed}
 use Rattle.rs_tree.specs.Plain.{Sta, Stas, Arms, Let, Assign, Return, Eval, While, If, Print, Bare, Else, Arm, Definition, Const, Func}
@@ -22,7 +23,7 @@ use Rattle.rs_names.specs.Indexed.{index_item}
 use Rattle.rs_names.specs.Resolved.{Locals, after, after_all, answer_by, answers_of, arms_answers, definition_answers, is_visible, item_answer, item_at, leads_to, module_answer, path_answer, sta_answers, stas_answers, with_params}
 use Rattle.rs_types.specs.Types.{sig_at}
 use Rattle.rs_const.specs.Constants.{Entry}
-use Rattle.rs_queries.specs.Known.{Answered, answered, entry_by, entry_of, kind_at, place_of, sig_of}
+use Rattle.rs_queries.specs.Known.{Answered, answered, constants_of, entry_by, entry_of, items_of, kind_at, place_of, sig_of}
 use Rattle.rs_plans.specs.Names.{is_among, once_from}
 use Rattle.rs_plans.specs.Plans.{named_items, places_found}
 use Rattle.rs_plans.proofs.Fresh.{among_later, once_all, same_is, same_self}
@@ -154,6 +155,13 @@ entry_there items [] rest p d = by (definition p.item.body)
 entry_there items (b ∷ before) rest p d =
     passed_over (place_in p) (answered items b) (definition b.item.body) (filter_map entry_of (map (answered items) (before ++ p ∷ rest))) (false_from_ne_true (same (place_in p) (place_in b)) (others b before rest p d))
     ∙ entry_there items before rest p (rest_distinct (place_in b) (map place_in (before ++ p ∷ rest)) d)
+
+-- the constant at the place of an item
+pub entry_known : (krate : Crate) → Distinct (map place_in krate.items) → (q : Name) (is : IsPlaced krate.items q) → first_at entry_name q (constants_of krate) ≡ entry_of (answered (items_of krate) is.placed)
+entry_known krate distinct q is =
+    ap (λ n. first_at entry_name n (constants_of krate)) (sym is.at)
+    ∙ ap (λ ps. first_at entry_name (place_in is.placed) (filter_map entry_of (map (answered (items_of krate)) ps))) is.is
+    ∙ entry_there (items_of krate) is.before is.rest is.placed (subst (λ ps. Distinct (map place_in ps)) is.is distinct)
 
 -- a kind is one byte
 pub kind_fits : (items : List IndexItem) (at : Place) → Each FitsIndexItem items → kind_at items at < 2 ^ 8

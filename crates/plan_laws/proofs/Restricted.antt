@@ -43,7 +43,7 @@ named_so q (x ∷ known) e h = by (same q (entry_name x)) refl (sym (next_at ent
     by true is h rest = (let it : x ≡ e = cc in sym (same_is q (entry_name x) is ∙ ap entry_name it))
     by false is h rest = rest h
 
-got : (known : List Entry) (q : Name) (i : ℕ) → place_from q 0 (names known) ≡ Some i → (e : Entry) × (slice_get known i ≡ Some e)
+pub got : (known : List Entry) (q : Name) (i : ℕ) → place_from q 0 (names known) ≡ Some i → (e : Entry) × (slice_get known i ≡ Some e)
 got known q i h = elim (slice_get_cases known i).1 [
   | inl in_it ↦ (in_it.0, in_it.2)
   | inr past ↦ absurd (let below = place_below q 0 (names known) i h in let long = length-map known entry_name in omega (arith, past.0, below, long))
@@ -229,7 +229,7 @@ module _ (one other : List Entry) (closed : IsClosed one other) where
       let none : ¬ IsInCycle other b = λ h. no (cycle_over other one closed_back b a (swapped one other a b t) h) in
       apart (x.value no ∙ ends_same one other closed a b t ∙ sym (y.value none))))
 
-at_all : {X : Type 0} (P : X → Type 0) (xs : List X) (i : ℕ) (x : X) → AllByRecursion P xs → slice_get xs i ≡ Some x → P x
+pub at_all : {X : Type 0} (P : X → Type 0) (xs : List X) (i : ℕ) (x : X) → AllByRecursion P xs → slice_get xs i ≡ Some x → P x
 at_all P [] i x h e = absurd (cc)
 at_all P (y ∷ xs) zero x h e = (let is : y ≡ x = cc in subst P is h.0)
 at_all P (y ∷ xs) (suc i) x h e = at_all P xs i x h.1 e

@@ -13,5 +13,6 @@ pub use laws::{
     items_are_valued, members_are_valued, signatures_are_valued, wrongs_need_named_items,
 };
 pub use outcomes::{
-    constants_need_named_ones, diagnostics_are_valued, forms_are_valued, objects_are_valued,
+    constants_are_valued, constants_need_named_ones, diagnostics_are_valued, forms_are_valued,
+    objects_are_valued,
 };

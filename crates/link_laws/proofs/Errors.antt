@@ -120,15 +120,22 @@ module _ (krate : Crate) (values : List Const) (right : is_wrong krate values �
       let its = all_item_lines (items_of krate) (sigs_of krate) (constants_of krate) values (all_answered krate) in
       or_parts (has_error mains) (has_error its) (sym (list_any-append (λ (l : Line). not (is_warning l.code)) mains its) ∙ right)
 
-  -- nothing is wrong with an item but for warnings
-  pub item_warns : (i : ℕ) (p : Placed) → slice_get krate.items i ≡ Some p
-      → Warns (body_wrongs (items_of krate) (sigs_of krate) p.«module» (answers_of (items_of krate) p.«module» (definition p.item.body)) (value_at (constants_of krate) values (place_of p)) p.item.at p.item.name (definition p.item.body))
-  item_warns i p e =
+  -- nothing is wrong with an item but for warnings, in order
+  pub lines_warn : (i : ℕ) (p : Placed) → slice_get krate.items i ≡ Some p
+      → list_any is_fault (lines (body_wrongs (items_of krate) (sigs_of krate) p.«module» (answers_of (items_of krate) p.«module» (definition p.item.body)) (value_at (constants_of krate) values (place_of p)) p.item.at p.item.name (definition p.item.body))) ≡ false
+  lines_warn i p e =
       let items = items_of krate in
       let a : Answered = answered items p in
       let ds = body_wrongs items (sigs_of krate) p.«module» a.1 (value_at (constants_of krate) values (place_of p)) p.item.at p.item.name (definition p.item.body) in
       let here = none_in (λ (l : Line). not (is_warning l.code)) (λ (a : Answered). item_lines items (sigs_of krate) (value_at (constants_of krate) values (place_of a.0)) a) (all_answered krate) a halves.1 (at_number (all_answered krate) i a (got_map (answered items) krate.items i p e)) in
-      record { none = sym (ordered diag_cmp is_fault diags_same ds) ∙ sym (lined p.start (lines ds)) ∙ here }
+      sym (lined p.start (lines ds)) ∙ here
+
+  -- and as they are told
+  pub item_warns : (i : ℕ) (p : Placed) → slice_get krate.items i ≡ Some p
+      → Warns (body_wrongs (items_of krate) (sigs_of krate) p.«module» (answers_of (items_of krate) p.«module» (definition p.item.body)) (value_at (constants_of krate) values (place_of p)) p.item.at p.item.name (definition p.item.body))
+  item_warns i p e =
+      let ds = body_wrongs (items_of krate) (sigs_of krate) p.«module» (answers_of (items_of krate) p.«module» (definition p.item.body)) (value_at (constants_of krate) values (place_of p)) p.item.at p.item.name (definition p.item.body) in
+      record { none = sym (ordered diag_cmp is_fault diags_same ds) ∙ lines_warn i p e }
 
   -- the root has a function `main`
   pub main_there : (x : IndexItem) × (item_at ([], codes "main") (items_of krate) ≡ Some x) × (is_function x ≡ true)

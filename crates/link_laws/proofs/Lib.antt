@@ -1,5 +1,5 @@
-mod Calls
-mod Errors
+pub mod Calls
+pub mod Errors
 mod Images
 mod Linking
 pub mod Lists

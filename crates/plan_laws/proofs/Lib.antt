@@ -19,3 +19,4 @@ pub mod Told
 pub mod Whole
 pub mod Constants
 pub mod Known
+pub mod Rooted

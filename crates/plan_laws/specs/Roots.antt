@@ -10,10 +10,10 @@ use Rattle.rs_tree.specs.declared.index.TextFault.TheVariants as code
 use Rattle.rs_tree.specs.declared.place.At.{At}
 use Rattle.rs_tree.specs.declared.tree.Crate.{Crate}
 use Rattle.rs_tree.specs.declared.tree.Placed.{Placed}
-use Rattle.rs_tree.specs.Plain.{plain_item}
-use Rattle.rs_forms.specs.Fits.{FitsFault}
+use Rattle.rs_tree.specs.Plain.{definition, plain_item}
+use Rattle.rs_forms.specs.Fits.{FitsFault, FitsIr}
 use Rattle.rs_forms.proofs.Readers.{forms_are_answered}
-use Rattle.rs_answers.specs.Fits.{FitsDiags}
+use Rattle.rs_answers.specs.Fits.{FitsConst, FitsDiags}
 use Rattle.rs_answers.specs.Forms.{diags_form}
 use Rattle.rs_lines.specs.Lines.{has_error, printed}
 use Rattle.rs_lines.specs.declared.line.Line.{Line}
@@ -28,11 +28,11 @@ use Rattle.rs_queries.specs.Built.{consts_of, form_of, members_in, tree_index}
 use Rattle.rs_queries.specs.Diagnosed.{OfText, calls_of, line_at, own_lines}
 use Rattle.rs_queries.specs.Known.{all_answered, answered, constants_of, items_of, place_of, sigs_of, value_at}
 use Rattle.rs_queries.specs.declared.compiled.Compiled.{Compiled}
-use Rattle.rs_plans.specs.Plans.{index_fault}
+use Rattle.rs_plans.specs.Plans.{index_fault, is_constant}
 use Rattle.rs_plans.specs.Steps.{query, whole}
 use Rattle.plan_laws.specs.Assembled.{IsAssembled, object_query}
 use Rattle.plan_laws.specs.Texts.{HasCrate}
-use Rattle.plan_laws.specs.Whole.{HasItems}
+use Rattle.plan_laws.specs.Whole.{HasItems, IsUsable}
 
 -- ---- What the clean build says of a tree whose constants have these values.
 
@@ -67,6 +67,21 @@ pub record GiveRoots (v : Query → List ℕ) (krate : Crate) (level : ℕ) (val
   pub are : AreValues (constants_of krate) values
   pub checks : AllByRecursion (GivesDiags v krate values) krate.items
   pub objects : has_wrong krate values ≡ false → AllByRecursion (GivesObject v krate level values) (units_of (tree_index krate))
+
+-- ---- The ranges of what the clean build says.
+
+-- a function's form is in the ranges of its types
+abbrev pub FitsForm : Crate → ℕ → List Const → Placed → Type 0
+FitsForm krate level values p = is_constant (definition p.item.body) ≡ false → FitsIr (form_of level (sigs_of krate) (consts_of (constants_of krate) values) (answered (items_of krate) p)).1
+
+-- What is wrong with items, and the values of constants are in the ranges of their types; and where no line is an error's, so are the forms of functions and the objects
+-- of units, and each constant has a value.
+pub record FitsClean (krate : Crate) (level : ℕ) (values : List Const) : Type 0 where
+  pub constants : AllByRecursion FitsConst values
+  pub diags : AllByRecursion (λ p. FitsDiags (wrongs_of krate values p)) krate.items
+  pub usable : has_wrong krate values ≡ false → AllByRecursion IsUsable values
+  pub forms : has_wrong krate values ≡ false → AllByRecursion (FitsForm krate level values) krate.items
+  pub objects : has_wrong krate values ≡ false → AllByRecursion (λ u. FitsObject (unit_object krate level values u)) (units_of (tree_index krate))
 
 -- a text's tree, which is in the ranges of its types
 pub record IsRooted (v : Query → List ℕ) (bytes : List ℕ) (level : ℕ) (krate : Crate) : Type 0 where

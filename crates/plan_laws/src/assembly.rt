@@ -7,17 +7,21 @@ ghost use Rattle.rs_tree.specs.declared.tree.Crate.{Crate};
 ghost use Rattle.rs_text.specs.Text.{text_of};
 ghost use Rattle.rs_text.specs.declared.fault.TextFault.{TextFault};
 ghost use Rattle.rs_forms.specs.Fits.{FitsFault};
+ghost use Rattle.rs_const.specs.Constants.{AreValues};
+ghost use Rattle.rs_queries.specs.Known.{constants_of};
 ghost use Rattle.rs_queries.specs.Built.{IsClean, IsCompiled, IsFaultCompiled, IsTreeCompiled, clean_of};
 ghost use Rattle.rs_queries.specs.declared.compiled.Compiled.{Compiled};
 ghost use Rattle.rs_plans.specs.Plans.{index_fault, level_of, plan_of};
 ghost use Rattle.plan_laws.specs.Assembled.{IsAssembled};
-ghost use Rattle.plan_laws.specs.Roots.{GiveRoots, IsFaultAssembled, IsTextAssembled, IsTextRooted};
+ghost use Rattle.plan_laws.specs.Roots.{FitsClean, GiveRoots, IsFaultAssembled, IsTextAssembled, IsTextRooted};
 ghost use Rattle.plan_laws.specs.Texts.{HasCrate};
 ghost use Rattle.plan_laws.specs.Whole.{HasItems};
 
 use rs_grammar::{items_parse_again, trees_are_tidy};
 use rs_object::objects_differ;
+use rs_reach::search_is_exact;
 use rs_text::texts_are_read;
+use rs_units::members_are_reached;
 
 /// What is told and made of the values of a text's roots is what a compiler makes of the text, and nothing else is: of a tree the lines of
 /// what is wrong with its items, moved to their places, of functions that are never used, and the objects and their image; of a fault its line. So it is
@@ -33,4 +37,17 @@ pub fn assembled_builds_are_clean()
     trees_are_tidy();
     items_parse_again();
     objects_differ();
+}
+
+/// The roots of a build give what the clean build says, where what it says is in the ranges of its types: each check what is wrong with its item, and where
+/// no line is an error's, each object's query the object of its unit. So what is told and made of them is the clean build.
+pub fn roots_are_valued()
+    ensures { (setting text : List ℕ) (krate : Crate) (values : List Const) → HasCrate text krate → HasItems krate → AreValues (constants_of krate) values → FitsClean krate (level_of setting) values
+        → GiveRoots (denote (plan_of setting) text) krate (level_of setting) values }
+{
+    texts_are_read();
+    trees_are_tidy();
+    items_parse_again();
+    search_is_exact();
+    members_are_reached();
 }

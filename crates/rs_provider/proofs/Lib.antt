@@ -1,0 +1,11 @@
+mod Follows
+mod Named
+mod News
+mod Readings
+mod Resolved
+mod Settles
+mod Starts
+mod Ticks
+mod Together
+mod Turns
+mod Worths

@@ -1,0 +1,5 @@
+pub mod Each
+pub mod Kept
+pub mod Naming
+pub mod Rests
+pub mod Shared

@@ -20,3 +20,6 @@ pub mod Whole
 pub mod Constants
 pub mod Known
 pub mod Rooted
+pub mod Chains
+pub mod Fine
+pub mod Usable

@@ -50,7 +50,7 @@ got known q i h = elim (slice_get_cases known i).1 [
 ]
 
 -- the signature of a constant
-sig_known : (q : Name) (known : List Entry) → sig_at q (sigs_of known) ≡ option_map (λ (e : Entry). (sig_of e).1) (entry_at q known)
+pub sig_known : (q : Name) (known : List Entry) → sig_at q (sigs_of known) ≡ option_map (λ (e : Entry). (sig_of e).1) (entry_at q known)
 sig_known q [] = refl
 sig_known q (x ∷ known) = found_next q (sig_of x) (sigs_of known) ∙ by (same q (entry_name x)) (sig_known q known) ∙ sym (ap (option_map (λ (e : Entry). (sig_of e).1)) (next_at entry_name q x known))
   where

@@ -18,11 +18,10 @@ use Rattle.rs_tree.specs.Plain.{Definition, Const, Func, definition}
 use Rattle.rs_grammar.specs.Again.{ItemsParseAgain}
 use Rattle.rs_grammar.specs.Tidy.{IsTidyCrate, NamesArePlain, TreesAreTidy}
 use Rattle.rs_text.specs.Laws.{ParsedIs, TextIs}
-use Rattle.rs_lookup.specs.Places.{place_from, place_name}
 use Rattle.rs_names.specs.Indexed.{is_root_main, kind_of}
 use Rattle.rs_reach.specs.Laws.{RootsDiffer}
 use Rattle.rs_check.specs.Items.{body_wrongs, lines}
-use Rattle.rs_const.specs.Constants.{AreValues, Entry, names}
+use Rattle.rs_const.specs.Constants.{AreValues}
 use Rattle.rs_units.specs.Laws.{IsMember, MembersOnce, MembersReached, NoneMissing}
 use Rattle.rs_units.specs.Members.{member_numbers}
 use Rattle.rs_units.specs.Units.{is_own, units_of}
@@ -35,16 +34,17 @@ use Rattle.link_laws.proofs.Errors.{lines_warn}
 use Rattle.link_laws.proofs.Lists.{at_number, each_at, each_filter_map, each_from, split}
 use Rattle.link_laws.proofs.Makes.{calls, forms}
 use Rattle.link_laws.proofs.Members.{member}
-use Rattle.link_laws.proofs.Places.{item_numbered, map_some, the_item, then_some}
+use Rattle.link_laws.proofs.Places.{item_numbered, map_some, the_item}
 use Rattle.plan_laws.specs.Roots.{FitsClean, GiveRoots, GivesDiags, GivesObject, has_wrong}
 use Rattle.plan_laws.specs.Texts.{HasCrate, HasItem}
-use Rattle.plan_laws.specs.Whole.{HasItems, HaveValues, IsUsable}
+use Rattle.plan_laws.specs.Whole.{HasItems, IsUsable}
 use Rattle.plan_laws.proofs.Checks.{item_of}
 use Rattle.plan_laws.proofs.Forms.{lowered_back}
 use Rattle.plan_laws.proofs.Given.{valued}
 use Rattle.plan_laws.proofs.Index.{tidy_tree}
 use Rattle.plan_laws.proofs.Known.{check_whole, form_whole}
 use Rattle.plan_laws.proofs.Objects.{object_given, unit_query}
+use Rattle.plan_laws.proofs.Usable.{usable}
 use Rattle.plan_laws.proofs.Used.{members_formed, members_read}
 
 -- what is of kind 1 or 2 is no constant
@@ -58,10 +58,6 @@ without_value : (items : List IndexItem) (sigs : List (Place × Sig)) (home : Li
     → list_any is_wrong (lines (body_wrongs items sigs home found value at name d)) ≡ false → list_any is_wrong (lines (body_wrongs items sigs home found None at name d)) ≡ false
 without_value items sigs home found value at name (Const typ e) function h = absurd (cc)
 without_value items sigs home found value at name (Func inlined params gives stmts tail) function h = h
-
-have_values : (constants : List Entry) (values : List Value) → AllByRecursion IsUsable values → (ps : List Place) → HaveValues constants values ps
-have_values constants values usable ps = each_from (λ q. (c : Value) → value_at constants values q ≡ Some c → IsUsable c) ps
-    (λ q has c is. (let n = then_some (slice_get values) (place_from (place_name q) 0 (names constants)) c is in each_at IsUsable values c usable (at_number values n.0 c n.2)))
 
 module _ (texts : TextIs) (plain : NamesArePlain) (trees : TreesAreTidy) (parses : ParsedIs) (again : ItemsParseAgain) (setting text : List ℕ) (krate : Crate) (has : HasCrate text krate) (whole_tree : HasItems krate) (values : List Value) (are : AreValues (constants_of krate) values) (fits : FitsClean krate (level_of setting) values) where
   abbrev v : Query → List ℕ
@@ -90,7 +86,7 @@ module _ (texts : TextIs) (plain : NamesArePlain) (trees : TreesAreTidy) (parses
         let has_item = at_number krate.items i p at in
         let found = (answered items p).1 in
         let warns = without_value items (sigs_of krate) p.«module» found (value_at (constants_of krate) values (record { «module» = p.«module»; name = p.item.name })) p.item.at p.item.name (definition p.item.body) function (lines_warn krate values right i p at) in
-        ap ir_in (form_whole texts plain trees parses again setting text krate has whole_tree values are fits.constants p (there p has_item) (have_values (constants_of krate) values (fits.usable right) (named_items found)) function warns)
+        ap ir_in (form_whole texts plain trees parses again setting text krate has whole_tree values are fits.constants p (there p has_item) (each_from (λ q. (c : Value) → value_at (constants_of krate) values q ≡ Some c → IsUsable c) (named_items found) (λ q listed. usable krate tidy values are right q)) function warns)
         ∙ lowered_back (level_of setting) found (sigs_of krate) (consts_of (constants_of krate) values) p (each_at _ krate.items p (fits.forms right) has_item function)
 
     module _ (roots : RootsDiffer) (reached : MembersReached) (once : MembersOnce) (missing : NoneMissing) (unit : List ℕ) where

@@ -32,7 +32,7 @@ use Rattle.rs_plans.specs.Plans.{index_fault, is_constant}
 use Rattle.rs_plans.specs.Steps.{query, whole}
 use Rattle.plan_laws.specs.Assembled.{IsAssembled, object_query}
 use Rattle.plan_laws.specs.Texts.{HasCrate}
-use Rattle.plan_laws.specs.Whole.{HasItems, IsUsable}
+use Rattle.plan_laws.specs.Whole.{HasItems}
 
 -- ---- What the clean build says of a tree whose constants have these values.
 
@@ -75,11 +75,10 @@ abbrev pub FitsForm : Crate → ℕ → List Const → Placed → Type 0
 FitsForm krate level values p = is_constant (definition p.item.body) ≡ false → FitsIr (form_of level (sigs_of krate) (consts_of (constants_of krate) values) (answered (items_of krate) p)).1
 
 -- What is wrong with items, and the values of constants are in the ranges of their types; and where no line is an error's, so are the forms of functions and the objects
--- of units, and each constant has a value.
+-- of units.
 pub record FitsClean (krate : Crate) (level : ℕ) (values : List Const) : Type 0 where
   pub constants : AllByRecursion FitsConst values
   pub diags : AllByRecursion (λ p. FitsDiags (wrongs_of krate values p)) krate.items
-  pub usable : has_wrong krate values ≡ false → AllByRecursion IsUsable values
   pub forms : has_wrong krate values ≡ false → AllByRecursion (FitsForm krate level values) krate.items
   pub objects : has_wrong krate values ≡ false → AllByRecursion (λ u. FitsObject (unit_object krate level values u)) (units_of (tree_index krate))
 

@@ -1,21 +1,22 @@
 //! What is told and made of the values of a build's roots.
 
-ghost use Rattle.std.specs.Prelude.{◌≡◌, ◌↔◌, ℕ, List, Err};
+ghost use Rattle.std.specs.Prelude.{◌≡◌, ◌↔◌, ℕ, false, List, Some, Ok, Err};
 ghost use Rattle.inc_query.specs.Plans.{denote};
 ghost use Rattle.rs_tree.specs.declared.answers.Const.{Const};
+ghost use Rattle.rs_tree.specs.declared.place.Place.{Place};
 ghost use Rattle.rs_tree.specs.declared.tree.Crate.{Crate};
 ghost use Rattle.rs_text.specs.Text.{text_of};
 ghost use Rattle.rs_text.specs.declared.fault.TextFault.{TextFault};
 ghost use Rattle.rs_forms.specs.Fits.{FitsFault};
 ghost use Rattle.rs_const.specs.Constants.{AreValues};
-ghost use Rattle.rs_queries.specs.Known.{constants_of};
+ghost use Rattle.rs_queries.specs.Known.{constants_of, value_at};
 ghost use Rattle.rs_queries.specs.Built.{IsClean, IsCompiled, IsFaultCompiled, IsTreeCompiled, clean_of};
 ghost use Rattle.rs_queries.specs.declared.compiled.Compiled.{Compiled};
 ghost use Rattle.rs_plans.specs.Plans.{index_fault, level_of, plan_of};
 ghost use Rattle.plan_laws.specs.Assembled.{IsAssembled};
-ghost use Rattle.plan_laws.specs.Roots.{FitsClean, GiveRoots, IsFaultAssembled, IsTextAssembled, IsTextRooted};
+ghost use Rattle.plan_laws.specs.Roots.{FitsClean, GiveRoots, IsFaultAssembled, IsTextAssembled, IsTextRooted, has_wrong};
 ghost use Rattle.plan_laws.specs.Texts.{HasCrate};
-ghost use Rattle.plan_laws.specs.Whole.{HasItems};
+ghost use Rattle.plan_laws.specs.Whole.{HasItems, IsUsable};
 
 use rs_grammar::{items_parse_again, trees_are_tidy};
 use rs_object::objects_differ;
@@ -50,4 +51,13 @@ pub fn roots_are_valued()
     items_parse_again();
     search_is_exact();
     members_are_reached();
+}
+
+/// Where no line of a text is an error's, each constant has a number or a truth value.
+pub fn constants_have_values()
+    ensures { (text : List ℕ) (krate : Crate) (values : List Const) (at : Place) (c : Const) → text_of text ≡ Ok krate → AreValues (constants_of krate) values → has_wrong krate values ≡ false
+        → value_at (constants_of krate) values at ≡ Some c → IsUsable c }
+{
+    texts_are_read();
+    trees_are_tidy();
 }

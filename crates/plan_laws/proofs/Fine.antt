@@ -23,6 +23,7 @@ use Rattle.rs_types.specs.Types.{Context, Leaf, all_ints, all_truths, compared, 
 use Rattle.rs_diag.specs.Faults.Wrong.{Mistyped}
 use Rattle.rs_diag.specs.declared.fault.Want.TheVariants.{Of}
 use Rattle.link_laws.proofs.Calls.{Warns, is_fault, left, right}
+use Rattle.link_laws.proofs.Lists.{each_append}
 use Rattle.plan_laws.specs.Agree.{Agrees}
 use Rattle.plan_laws.proofs.Agree.{AllAgree}
 
@@ -102,10 +103,6 @@ both_true false b e g = absurd (cc)
 
 pub empty : {X : Type 0} (xs ys : List X) → xs ≡ [] → ys ≡ [] → xs ++ ys ≡ []
 empty xs ys e g = ap (λ l. l ++ ys) e ∙ g
-
-joined : {X : Type 0} (P : X → Type 0) (xs ys : List X) → AllByRecursion P xs → AllByRecursion P ys → AllByRecursion P (xs ++ ys)
-joined P [] ys h k = k
-joined P (x ∷ xs) ys h k = (h.0, joined P xs ys h.1 k)
 
 -- ---- Expressions.
 
@@ -227,8 +224,8 @@ module _ (sigs other : List (Place × Sig)) where
           typ = t.Int;
           is = if_so (is_typ t.Int (type_of c it) && all_ints c rest) t.Int (both_true (is_typ t.Int (type_of c it)) (all_ints c rest) n.is m.are);
           kind = tt;
-          agree = joined (λ l. Agrees sigs other l.1) (leaves it) (leaves_by rest) i.agree m.agree;
-          some = joined HasNumber (leaves (filled None gs e)) (leaves_by (filled_by None (drop k gs) more)) i.some m.some;
+          agree = each_append (λ l. Agrees sigs other l.1) (leaves it) (leaves_by rest) i.agree m.agree;
+          some = each_append HasNumber (leaves (filled None gs e)) (leaves_by (filled_by None (drop k gs) more)) i.some m.some;
         }
     fine (Compare at op a b) fs gs z w =
         let k = length (leaves a) in
@@ -247,8 +244,8 @@ module _ (sigs other : List (Place × Sig)) where
           typ = t.Bool;
           is = s.is;
           kind = tt;
-          agree = joined (λ l. Agrees sigs other l.1) (leaves x) (leaves y) i.agree m.agree;
-          some = joined HasNumber (leaves (filled None gs a)) (leaves (filled None (drop k gs) b)) i.some m.some;
+          agree = each_append (λ l. Agrees sigs other l.1) (leaves x) (leaves y) i.agree m.agree;
+          some = each_append HasNumber (leaves (filled None gs a)) (leaves (filled None (drop k gs) b)) i.some m.some;
         }
     fine (And at parts) fs gs z w =
         let m = fine_all parts fs gs z w in
@@ -274,8 +271,8 @@ module _ (sigs other : List (Place × Sig)) where
           all = then_has (v.value (filled None gs e)) (λ x. if v.is_zero x then Ok (pos 0) else v.all gs_more) i.value (λ x. choose_has (v.is_zero x) (Ok (pos 0)) (v.all gs_more) (λ e. absurd (cc)) m.all);
           any = then_has (v.value (filled None gs e)) (λ x. if v.is_zero x then v.any gs_more else Ok (pos 1)) i.value (λ x. choose_has (v.is_zero x) (v.any gs_more) (Ok (pos 1)) m.any (λ e. absurd (cc)));
           are = both_true (is_typ t.Bool (type_of c it)) (all_truths c rest) n.is m.are;
-          agree = joined (λ l. Agrees sigs other l.1) (leaves it) (leaves_all rest) i.agree m.agree;
-          some = joined HasNumber (leaves (filled None gs e)) (leaves_all gs_more) i.some m.some;
+          agree = each_append (λ l. Agrees sigs other l.1) (leaves it) (leaves_all rest) i.agree m.agree;
+          some = each_append HasNumber (leaves (filled None gs e)) (leaves_all gs_more) i.some m.some;
         }
 
     fine_by : (os : Operands path.Path) (fs : List Found) (gs : List (Option ℤ)) → Zipped fs gs → Warns (wrongs_by c (filled_by f.Absent fs os)) → FineBy (filled_by f.Absent fs os) (filled_by None gs os)
@@ -294,6 +291,6 @@ module _ (sigs other : List (Place × Sig)) where
           none = empty front (wrongs_by c rest) (empty (wrongs c it) (need (at_of it) t.Int (type_of c it)) i.none n.none) m.none;
           chain = λ o h. m.chain (v.and_then o (λ x. v.and_then it_value (v.arithmetic op x))) (then_has o (λ x. v.and_then it_value (v.arithmetic op x)) h (λ x. then_has it_value (v.arithmetic op x) i.value (arithmetic_has op x)));
           are = both_true (is_typ t.Int (type_of c it)) (all_ints c rest) n.is m.are;
-          agree = joined (λ l. Agrees sigs other l.1) (leaves it) (leaves_by rest) i.agree m.agree;
-          some = joined HasNumber (leaves (filled None gs e)) (leaves_by (filled_by None (drop k gs) more)) i.some m.some;
+          agree = each_append (λ l. Agrees sigs other l.1) (leaves it) (leaves_by rest) i.agree m.agree;
+          some = each_append HasNumber (leaves (filled None gs e)) (leaves_by (filled_by None (drop k gs) more)) i.some m.some;
         }

@@ -1,5 +1,5 @@
 -- The values of items, of their signatures and of their calls.
-use Rattle.std.proofs.Common.{◌≡◌, ℕ, suc, Bool, true, false, List, [], ◌∷◌, ◌++◌, map, refl, sym, ap, subst, ◌∙◌, arith, if◌then◌else◌}
+use Rattle.std.proofs.Common.{◌≡◌, ℕ, Bool, true, false, List, [], ◌∷◌, ◌++◌, map, refl, sym, ap, subst, ◌∙◌, arith, if◌then◌else◌}
 use Rattle.std.specs.Prelude.{Some, None, Ok, option_and_then}
 use Rattle.std.specs.Option.{option_map_or}
 use Rattle.std.proofs.lemmas.List.{map-append}
@@ -33,14 +33,12 @@ use Rattle.rs_plans.specs.Readings.{are_lexed, index_in, item_by, item_in, item_
 use Rattle.rs_plans.specs.Steps.{ask, query, whole}
 use Rattle.rs_plans.proofs.Fresh.{same_is, same_self}
 use Rattle.inc_query.specs.Plans.{Give}
+use Rattle.link_laws.proofs.Lists.{rest_distinct}
 use Rattle.plan_laws.specs.Texts.{HasCrate, HasItem}
 use Rattle.plan_laws.proofs.Given.{by_plan, given_ask, text_value, valued}
 use Rattle.plan_laws.proofs.Index.{index_read, tidy_tree}
 
 -- ---- An item is found by its place.
-
-pub rest_distinct : {X : Type 0} (x : X) (xs : List X) → Distinct (x ∷ xs) → Distinct xs
-rest_distinct x xs d before y rest e has = d (x ∷ before) y rest (ap (λ zs. x ∷ zs) e) (suc has.0, omega (arith, has.1), has.2)
 
 -- none before it stands at its place
 pub others : (b : Placed) (before rest : List Placed) (p : Placed) → Distinct (map place_in (b ∷ before ++ p ∷ rest)) → same (place_in p) (place_in b) ≡ true → ⊥

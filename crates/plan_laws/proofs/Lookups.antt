@@ -27,7 +27,8 @@ use Rattle.rs_queries.specs.Known.{Answered, answered, constants_of, entry_by, e
 use Rattle.rs_plans.specs.Names.{is_among, once_from}
 use Rattle.rs_plans.specs.Plans.{named_items, places_found}
 use Rattle.rs_plans.proofs.Fresh.{among_later, once_all, same_is, same_self}
-use Rattle.plan_laws.proofs.Items.{indexed, others, rest_distinct}
+use Rattle.link_laws.proofs.Lists.{rest_distinct}
+use Rattle.plan_laws.proofs.Items.{indexed, others}
 
 -- ---- A list of places, each with what is known of it.
 

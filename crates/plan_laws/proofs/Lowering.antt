@@ -24,6 +24,7 @@ use Rattle.rs_lower.specs.Locals.{Env, find, with_params}
 use Rattle.rs_lower.specs.Lowered.{function_code, is_within, lowered, lowered_definition, meanings, no_code, reduced_code}
 use Rattle.rs_lower.specs.Meanings.{Leaf, Meanings, callee, gives_truth, gives_value, has_kind, is_truth_const, sig_of}
 use Rattle.rs_lower.specs.Reduced.{arms_reduced, by_consts, constant_of, folded, folded_or, is_fixed, leaf_value, number_in, outcome, reduced, reduced_all, reduced_by, reduced_in, sta_reduced, stas_reduced, value_in, valued, valued_all, valued_by}
+use Rattle.link_laws.proofs.Lists.{each_append}
 use Rattle.plan_laws.specs.Agree.{Agrees, ValuesAgree}
 use Rattle.plan_laws.proofs.Agree.{two_same}
 
@@ -36,10 +37,6 @@ front P (x ∷ xs) ys h = (h.0, front P xs ys h.1)
 back : {X : Type 0} (P : X → Type 0) (xs ys : List X) → AllByRecursion P (xs ++ ys) → AllByRecursion P ys
 back P [] ys h = h
 back P (x ∷ xs) ys h = back P xs ys h.1
-
-joined : {X : Type 0} (P : X → Type 0) (xs ys : List X) → AllByRecursion P xs → AllByRecursion P ys → AllByRecursion P (xs ++ ys)
-joined P [] ys h k = k
-joined P (x ∷ xs) ys h k = (h.0, joined P xs ys h.1 k)
 
 dropped : {X : Type 0} (P : X → Type 0) (n : ℕ) (xs : List X) → AllByRecursion P xs → AllByRecursion P (drop n xs)
 dropped P zero xs h = h
@@ -326,22 +323,22 @@ module _ (w v : Meanings) (gives : w.gives ≡ v.gives) (folds : w.folds ≡ v.f
     kept (Unary at op e) h = or_kept at (is_not op) (folded v (Unary at op e)) (Unary at op (reduced v e)) (kept e h)
     kept (Arith at a more) h =
         or_kept at false (folded v (Arith at a more)) (Arith at (reduced v a) (reduced_by v more))
-        (joined SameLeaf (leaves (reduced v a)) (leaves_by (reduced_by v more)) (kept a (front SameLeaf (leaves a) (leaves_by more) h)) (kept_by more (back SameLeaf (leaves a) (leaves_by more) h)))
+        (each_append SameLeaf (leaves (reduced v a)) (leaves_by (reduced_by v more)) (kept a (front SameLeaf (leaves a) (leaves_by more) h)) (kept_by more (back SameLeaf (leaves a) (leaves_by more) h)))
     kept (Compare at op a b) h =
         or_kept at true (folded v (Compare at op a b)) (Compare at op (reduced v a) (reduced v b))
-        (joined SameLeaf (leaves (reduced v a)) (leaves (reduced v b)) (kept a (front SameLeaf (leaves a) (leaves b) h)) (kept b (back SameLeaf (leaves a) (leaves b) h)))
+        (each_append SameLeaf (leaves (reduced v a)) (leaves (reduced v b)) (kept a (front SameLeaf (leaves a) (leaves b) h)) (kept b (back SameLeaf (leaves a) (leaves b) h)))
     kept (And at parts) h = or_kept at true (folded v (And at parts)) (And at (reduced_all v parts)) (kept_all parts h)
     kept (Or at parts) h = or_kept at true (folded v (Or at parts)) (Or at (reduced_all v parts)) (kept_all parts h)
 
     kept_all : (es : Exps Leaf) → AllSame (leaves_all es) → AllSame (leaves_all (reduced_all v es))
     kept_all Exps.Empty h = tt
     kept_all (Exps.Of e more) h =
-        joined SameLeaf (leaves (reduced v e)) (leaves_all (reduced_all v more)) (kept e (front SameLeaf (leaves e) (leaves_all more) h)) (kept_all more (back SameLeaf (leaves e) (leaves_all more) h))
+        each_append SameLeaf (leaves (reduced v e)) (leaves_all (reduced_all v more)) (kept e (front SameLeaf (leaves e) (leaves_all more) h)) (kept_all more (back SameLeaf (leaves e) (leaves_all more) h))
 
     kept_by : (os : Operands Leaf) → AllSame (leaves_by os) → AllSame (leaves_by (reduced_by v os))
     kept_by Done h = tt
     kept_by (By op e more) h =
-        joined SameLeaf (leaves (reduced v e)) (leaves_by (reduced_by v more)) (kept e (front SameLeaf (leaves e) (leaves_by more) h)) (kept_by more (back SameLeaf (leaves e) (leaves_by more) h))
+        each_append SameLeaf (leaves (reduced v e)) (leaves_by (reduced_by v more)) (kept e (front SameLeaf (leaves e) (leaves_by more) h)) (kept_by more (back SameLeaf (leaves e) (leaves_by more) h))
 
   kept_in : (o : Option (Exp Leaf)) → AllSame (leaves_in o) → AllSame (leaves_in (reduced_in v o))
   kept_in None h = tt
@@ -354,22 +351,22 @@ module _ (w v : Meanings) (gives : w.gives ≡ v.gives) (folds : w.folds ≡ v.f
     sta_kept (Return at value) h = kept_in value h
     sta_kept (Eval value) h = kept value h
     sta_kept (While cond body) h =
-        joined SameLeaf (leaves (reduced v cond)) (stas_leaves (stas_reduced v body)) (kept cond (front SameLeaf (leaves cond) (stas_leaves body) h)) (stas_kept body (back SameLeaf (leaves cond) (stas_leaves body) h))
+        each_append SameLeaf (leaves (reduced v cond)) (stas_leaves (stas_reduced v body)) (kept cond (front SameLeaf (leaves cond) (stas_leaves body) h)) (stas_kept body (back SameLeaf (leaves cond) (stas_leaves body) h))
     sta_kept (If arms) h = arms_kept arms h
     sta_kept (Print value) h = kept value h
 
     stas_kept : (ss : Stas Leaf) → AllSame (stas_leaves ss) → AllSame (stas_leaves (stas_reduced v ss))
     stas_kept Stas.Empty h = tt
     stas_kept (Stas.Of s more) h =
-        joined SameLeaf (sta_leaves (sta_reduced v s)) (stas_leaves (stas_reduced v more)) (sta_kept s (front SameLeaf (sta_leaves s) (stas_leaves more) h)) (stas_kept more (back SameLeaf (sta_leaves s) (stas_leaves more) h))
+        each_append SameLeaf (sta_leaves (sta_reduced v s)) (stas_leaves (stas_reduced v more)) (sta_kept s (front SameLeaf (sta_leaves s) (stas_leaves more) h)) (stas_kept more (back SameLeaf (sta_leaves s) (stas_leaves more) h))
 
     arms_kept : (arms : Arms Leaf) → AllSame (arms_leaves arms) → AllSame (arms_leaves (arms_reduced v arms))
     arms_kept Bare h = tt
     arms_kept (Else body) h = stas_kept body h
     arms_kept (Arm cond body more) h =
         let rest = back SameLeaf (leaves cond) (stas_leaves body ++ arms_leaves more) h in
-        joined SameLeaf (leaves (reduced v cond)) (stas_leaves (stas_reduced v body) ++ arms_leaves (arms_reduced v more)) (kept cond (front SameLeaf (leaves cond) (stas_leaves body ++ arms_leaves more) h))
-        (joined SameLeaf (stas_leaves (stas_reduced v body)) (arms_leaves (arms_reduced v more)) (stas_kept body (front SameLeaf (stas_leaves body) (arms_leaves more) rest)) (arms_kept more (back SameLeaf (stas_leaves body) (arms_leaves more) rest)))
+        each_append SameLeaf (leaves (reduced v cond)) (stas_leaves (stas_reduced v body) ++ arms_leaves (arms_reduced v more)) (kept cond (front SameLeaf (leaves cond) (stas_leaves body ++ arms_leaves more) h))
+        (each_append SameLeaf (stas_leaves (stas_reduced v body)) (arms_leaves (arms_reduced v more)) (stas_kept body (front SameLeaf (stas_leaves body) (arms_leaves more) rest)) (arms_kept more (back SameLeaf (stas_leaves body) (arms_leaves more) rest)))
 
   pub reduced_code_same : (inlined : Bool) (params : List Param) (ss : Stas Leaf) (tail : Option (Exp Leaf)) → AllByRecursion SameLeaf (stas_leaves ss) → AllByRecursion SameLeaf (leaves_in tail)
       → reduced_code w inlined params ss tail ≡ reduced_code v inlined params ss tail

@@ -30,22 +30,12 @@ use Rattle.rs_plans.proofs.Fresh.{same_is, same_self}
 use Rattle.link_laws.proofs.Lists.{none_distinct}
 use Rattle.link_laws.proofs.Places.{got_map, map_some, then_some}
 use Rattle.plan_laws.proofs.Given.{given_ask}
+use Rattle.plan_laws.proofs.Lookups.{shifted}
 
 -- ---- What is known of calls, by name.
 
 abbrev Calls : Type 0
 Calls = List (Place × List Place)
-
-one_more : (i : ℕ) → i + 1 ≡ suc i
-one_more i = omega arith
-
-counted : (k : Name) (i : ℕ) (names : List Name) → place_from k (i + 1) names ≡ option_map suc (place_from k i names)
-counted k i [] = refl
-counted k i (n ∷ names) = by (same k n) (counted k (i + 1) names)
-  where
-    by : (b : Bool) → place_from k (i + 1 + 1) names ≡ option_map suc (place_from k (i + 1) names) → (if b then Some (i + 1) else place_from k (i + 1 + 1) names) ≡ option_map suc (if b then Some i else place_from k (i + 1) names)
-    by true more = ap Some (one_more i)
-    by false more = more
 
 abbrev its_calls : Calls → ℕ → Option (List Place)
 its_calls calls j = option_map (λ (c : Place × List Place). c.1) (slice_get calls j)
@@ -60,7 +50,7 @@ call_first c calls k = by (same k (place_name c.0))
 
     by : (b : Bool) → option_and_then (its_calls (c ∷ calls)) (if b then Some 0 else place_from k (0 + 1) (call_names calls)) ≡ (if b then Some c.1 else calls_at calls k)
     by true = refl
-    by false = ap (option_and_then (its_calls (c ∷ calls))) (counted k 0 (call_names calls)) ∙ past (place_from k 0 (call_names calls))
+    by false = ap (option_and_then (its_calls (c ∷ calls))) (shifted k 0 (call_names calls)) ∙ past (place_from k 0 (call_names calls))
 
 -- what is known stays so
 stays_known : (calls more : Calls) (k : Name) (ps : List Place) → calls_at calls k ≡ Some ps → calls_at (calls ++ more) k ≡ Some ps

@@ -10,15 +10,16 @@ use Rattle.rs_text.specs.Text.{text_of}
 use Rattle.rs_text.specs.declared.fault.TextFault.{TextFault}
 use Rattle.rs_forms.specs.Fits.{FitsFault}
 use Rattle.rs_reach.specs.Dead.{dead_of}
+use Rattle.rs_const.specs.Constants.{AreValues}
 use Rattle.rs_queries.specs.Built.{IsCompiled, IsFaultCompiled, IsTreeCompiled}
-use Rattle.rs_queries.specs.Known.{items_of}
+use Rattle.rs_queries.specs.Known.{constants_of, items_of}
 use Rattle.rs_queries.specs.declared.compiled.Compiled.{Compiled}
 use Rattle.rs_plans.specs.Plans.{index_fault, level_of}
 use Rattle.rs_plans.specs.Readings.{places_in}
 use Rattle.rs_plans.specs.Steps.{whole}
 use Rattle.link_laws.proofs.Makes.{calls}
 use Rattle.plan_laws.specs.Assembled.{IsAssembled}
-use Rattle.plan_laws.specs.Roots.{GiveRoots, IsFaultAssembled, IsTextAssembled, IsTextRooted}
+use Rattle.plan_laws.specs.Roots.{FitsClean, GiveRoots, IsFaultAssembled, IsTextAssembled, IsTextFitting, IsTextRooted}
 use Rattle.plan_laws.specs.Texts.{HasCrate}
 use Rattle.plan_laws.specs.Whole.{HasItems}
 use Rattle.plan_laws.proofs.Given.{valued}
@@ -49,3 +50,12 @@ module _ (texts : TextIs) (plain : NamesArePlain) (trees : TreesAreTidy) (parses
       tree = λ krate is. (let r = rooted.tree krate is in (tree_same krate r.whole r.items r.values r.give c).1 (t.tree krate is));
     },
   )
+
+-- its roots give what the clean build says, where the roots of each tree do
+pub rooted : (setting text : List ℕ)
+    → ((setting text : List ℕ) (krate : Crate) (values : List Const) → HasCrate text krate → HasItems krate → AreValues (constants_of krate) values → FitsClean krate (level_of setting) values → GiveRoots (valued setting text) krate (level_of setting) values)
+    → IsTextFitting text (level_of setting) → IsTextRooted text (valued setting text) (level_of setting)
+rooted setting text gives fits = record {
+  fault = fits.fault;
+  tree = λ krate is. (let r = fits.tree krate is in record { whole = r.whole; items = r.items; values = r.values; give = gives setting text krate r.values r.whole r.items r.are r.fits });
+}

@@ -120,3 +120,14 @@ IsTextAssembled text v c = OfText text (λ f. IsFaultAssembled v c) (λ krate. I
 -- each text has what its queries are stated by: a fault, or a tree, in the ranges of the types
 abbrev pub IsTextRooted : List ℕ → (Query → List ℕ) → ℕ → Type 0
 IsTextRooted text v level = OfText text (λ f. FitsFault (index_fault f)) (IsRooted v text level)
+
+-- a text's tree, where it and what the clean build says of it are in the ranges of their types
+pub record IsFitting (bytes : List ℕ) (level : ℕ) (krate : Crate) : Type 0 where
+  pub whole : HasCrate bytes krate
+  pub items : HasItems krate
+  pub values : List Const
+  pub are : AreValues (constants_of krate) values
+  pub fits : FitsClean krate level values
+
+abbrev pub IsTextFitting : List ℕ → ℕ → Type 0
+IsTextFitting text level = OfText text (λ f. FitsFault (index_fault f)) (IsFitting text level)

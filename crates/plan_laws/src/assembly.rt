@@ -14,7 +14,7 @@ ghost use Rattle.rs_queries.specs.Built.{IsClean, IsCompiled, IsFaultCompiled, I
 ghost use Rattle.rs_queries.specs.declared.compiled.Compiled.{Compiled};
 ghost use Rattle.rs_plans.specs.Plans.{index_fault, level_of, plan_of};
 ghost use Rattle.plan_laws.specs.Assembled.{IsAssembled};
-ghost use Rattle.plan_laws.specs.Roots.{FitsClean, GiveRoots, IsFaultAssembled, IsTextAssembled, IsTextRooted, has_wrong};
+ghost use Rattle.plan_laws.specs.Roots.{FitsClean, GiveRoots, IsFaultAssembled, IsTextAssembled, IsTextFitting, IsTextRooted, has_wrong};
 ghost use Rattle.plan_laws.specs.Texts.{HasCrate};
 ghost use Rattle.plan_laws.specs.Whole.{HasItems, IsUsable};
 
@@ -60,4 +60,14 @@ pub fn constants_have_values()
 {
     texts_are_read();
     trees_are_tidy();
+}
+
+/// What is told and made of the values of a text's roots is what a compiler makes of the text, and so its clean build, and nothing else is: all
+/// that is asked is that the text's parts and what the clean build says of it are in the ranges of their types.
+pub fn builds_by_queries_are_clean()
+    ensures whole { (setting text : List ℕ) (c : Compiled) → IsTextFitting text (level_of setting) → IsTextAssembled text (denote (plan_of setting) text) c ↔ IsCompiled text (level_of setting) c }
+    ensures clean { (setting text : List ℕ) (c : Compiled) → IsTextFitting text (level_of setting) → IsTextAssembled text (denote (plan_of setting) text) c → IsClean text (level_of setting) (clean_of c) }
+{
+    roots_are_valued();
+    assembled_builds_are_clean();
 }

@@ -7,7 +7,10 @@ mod assembly;
 mod laws;
 mod outcomes;
 
-pub use assembly::{assembled_builds_are_clean, constants_have_values, roots_are_valued};
+pub use assembly::{
+    assembled_builds_are_clean, builds_by_queries_are_clean, constants_have_values,
+    roots_are_valued,
+};
 pub use laws::{
     calls_are_valued, dead_functions_are_valued, forms_need_named_items, indexes_are_valued,
     items_are_valued, members_are_valued, signatures_are_valued, wrongs_need_named_items,

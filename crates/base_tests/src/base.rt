@@ -128,9 +128,9 @@ fn sinks_in_memory_fail_where_listed(rt: HostRuntime) -> Result<(), Fail> {
 #[test]
 fn lists_are_ordered_and_joined(rt: HostRuntime) -> Result<(), Fail> {
     let alloc = rt.alloc();
-    let mut list = Bytes::of(alloc, b"ab")?;
-    list.append_list(Bytes::of(alloc, b"c")?)?;
-    assert!(rt; Bytes::of(alloc, b"ab")? < list);
+    let mut list = List::from_vec(Vec::from_slice(alloc, b"ab")?);
+    list.append_list(List::from_vec(Vec::from_slice(alloc, b"c")?))?;
+    assert!(rt; List::from_vec(Vec::from_slice(alloc, b"ab")?) < list);
     let mut counts = BTreeMap::new(alloc);
     counts.insert(list.copy()?, 3u8)?;
     assert_eq!(rt; counts.get(&list).copied(), Some(3));
@@ -139,6 +139,35 @@ fn lists_are_ordered_and_joined(rt: HostRuntime) -> Result<(), Fail> {
         List::from_vec(list.into_vec()).as_slice(),
         b"ab".as_slice()
     );
+    Ok(())
+}
+
+#[test]
+fn bytes_are_added_to_and_copies_stay(rt: HostRuntime) -> Result<(), Fail> {
+    let alloc = rt.alloc();
+    for count in [0usize, 20, 21, 22, 23, 64] {
+        let mut plain = Vec::new(alloc);
+        for _ in 0..count {
+            plain.push(b'a')?;
+        }
+        let mut bytes = Bytes::from_vec(Vec::from_slice(alloc, plain.as_slice())?)?;
+        let before = bytes.copy()?;
+        for piece in [
+            b"b".as_slice(),
+            b"".as_slice(),
+            b"cdefghijklmnopqrstuvwxyz".as_slice(),
+        ] {
+            bytes.append(piece)?;
+            plain.extend_from_slice(piece)?;
+            assert_eq!(rt; bytes.as_slice(), plain.as_slice());
+        }
+        assert!(rt; before < bytes);
+        assert_eq!(rt; before.is_empty(), count == 0);
+        bytes.append_two(b"1", b"2")?;
+        bytes.push(b'3')?;
+        assert_eq!(rt; bytes.len(), count + 28);
+        assert_eq!(rt; before.as_slice(), &plain.as_slice()[..count]);
+    }
     Ok(())
 }
 

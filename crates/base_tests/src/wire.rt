@@ -1,4 +1,4 @@
-use inc_base::{Bytes, Compiler, Copied, Job, List, Name};
+use inc_base::{Bytes, Compiler, Copied, Job, Name};
 use inc_wire::{
     Cursor, Header, Print, forms_differ, job_hash, print_of, put_header, put_number, put_text,
     take_header,
@@ -36,7 +36,7 @@ fn header_of_k(rt: HostRuntime) -> Result<(), Fail> {
         compiler: FIRST,
         krate: crate_k(&rt)?,
     };
-    let mut bytes: Bytes = List::new(rt.alloc());
+    let mut bytes = Bytes::new(rt.alloc());
     put_header(&mut bytes, &header.copy()?)?;
     assert_eq!(rt; bytes.as_slice(), HEADER.as_slice());
     bytes.append(b"more")?;
@@ -65,7 +65,7 @@ fn no_header(rt: HostRuntime) -> Result<(), Fail> {
 
 #[test]
 fn fields_come_back(rt: HostRuntime) -> Result<(), Fail> {
-    let mut bytes: Bytes = List::new(rt.alloc());
+    let mut bytes = Bytes::new(rt.alloc());
     put_number(&mut bytes, 1, 255)?;
     put_number(&mut bytes, 2, 258)?;
     put_number(&mut bytes, 4, 16_909_060)?;

@@ -1,6 +1,6 @@
 //! Rows: texts and names, each built over the row before.
 use crate::toy::Toy;
-use inc_base::{Bytes, List, Memory, Meter};
+use inc_base::{Bytes, Memory, Meter};
 use inc_engine::{Engine, Work};
 use inc_graph::{Cache, Graph};
 use inc_query::Query;
@@ -38,7 +38,7 @@ impl Rows {
     pub fn new(alloc: Global) -> Rows {
         Rows {
             alloc,
-            answers: List::new(alloc),
+            answers: Bytes::new(alloc),
             left: None,
         }
     }
@@ -93,11 +93,11 @@ fn ask(
 ) -> Result<Bytes, Memory> {
     let q = Query {
         kind: 2,
-        module: List::new(alloc),
+        module: Bytes::new(alloc),
         name: Bytes::of(alloc, name)?,
     };
     if !q.fits() {
-        return Ok(List::new(alloc));
+        return Ok(Bytes::new(alloc));
     }
     engine.get(&q, meter)
 }

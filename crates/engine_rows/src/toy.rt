@@ -78,8 +78,8 @@ fn read_of(alloc: Global, q: &Query) -> Result<Query, Memory>
     if q.kind == 1 {
         Ok(Query {
             kind: 0,
-            module: List::new(alloc),
-            name: List::new(alloc),
+            module: Bytes::new(alloc),
+            name: Bytes::new(alloc),
         })
     } else {
         Ok(Query {
@@ -97,7 +97,7 @@ fn byte_at(text: &Bytes, at: usize) -> Result<Answer, Memory>
     let value = if at < bytes.len() {
         Bytes::of(text.allocator(), &bytes[at..at + 1])?
     } else {
-        List::new(text.allocator())
+        Bytes::new(text.allocator())
     };
     Ok(Answer::Value(value))
 }

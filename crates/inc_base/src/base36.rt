@@ -4,7 +4,7 @@ ghost use Rattle.std.specs.List.{AllPass};
 ghost use Rattle.std.specs.Option.{SomeIff};
 ghost use Rattle.inc_base.specs.Base36.{is_digit36, number36, last_digits36, Spells36, SpellsWide36};
 
-use crate::list::Bytes;
+use crate::bytes::Bytes;
 use crate::memory::Memory;
 use std::alloc::Global;
 

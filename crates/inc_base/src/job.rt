@@ -1,9 +1,9 @@
 ghost use Rattle.std.specs.Prelude.{◌≡◌, ◌<◌};
 ghost use Rattle.std.proofs.Common.{rules};
 
+use crate::bytes::Bytes;
 use crate::copied::Copied;
 use crate::label::Name;
-use crate::list::Bytes;
 
 /// The version of this compiler.
 pub const VERSION: u32 = 1;

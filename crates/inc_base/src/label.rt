@@ -6,8 +6,8 @@ ghost use Rattle.std.specs.Ordering.{nat_cmp};
 ghost use Rattle.std.specs.Cmp.{partial_equiv_from_equiv};
 ghost use Rattle.std.specs.Cmp.Lexicographic.{pointwise, slice_cmp, nat_list_eq_equiv, nat_list_cmp_total, texts_ties, texts_po};
 
+use crate::bytes::Bytes;
 use crate::copied::Copied;
-use crate::list::Bytes;
 use crate::memory::Memory;
 use std::alloc::Global;
 use std::cmp::Ordering;

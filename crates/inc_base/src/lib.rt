@@ -7,6 +7,7 @@
 #![tactic(auto)]
 
 mod base36;
+mod bytes;
 mod copied;
 mod job;
 mod label;
@@ -17,13 +18,15 @@ mod meter;
 mod outside;
 mod read;
 mod roomy;
+mod short;
 mod stdio;
 
 pub use base36::{from36, from36_wide, to36, to36_wide};
+pub use bytes::Bytes;
 pub use copied::Copied;
 pub use job::{Compiler, Job, VERSION};
 pub use label::{Label, Name};
-pub use list::{Bytes, List, MOST};
+pub use list::{List, MOST};
 pub use mem::{MemSink, MemSource};
 pub use memory::Memory;
 pub use meter::{Meter, rises_add_up};

@@ -19,9 +19,6 @@ pub struct List<T> {
     items: Vec<T>,
 }
 
-/// A list of bytes.
-pub type Bytes = List<u8>;
-
 impl<T> Model for List<T> {
     ghost use Rattle.std.specs.Prelude.{List, length, ◌<◌, ◌^◌};
     ghost use Rattle.std.specs.Coded.{coded_list};
@@ -200,28 +197,15 @@ impl<T: Ord> Ord for List<T> {
 }
 
 impl List<u8> {
-    /// A list of these bytes. More than `MOST` of them answer `Memory`.
-    pub fn of(alloc: Global, bytes: &[u8]) -> Result<Bytes, Memory>
-        ensures { IfOk result (λ it. it ≡ bytes.now) }
-    {
-        if bytes.len() > MOST {
-            return Err(Memory);
-        }
-        Ok(List {
-            items: Vec::from_slice(alloc, bytes)?,
-        })
-    }
-
-    /// Adds a piece at the end. `Memory` leaves the list as it was, and also comes where it has no room
-    /// left for the piece.
-    pub fn append(&mut self, piece: &[u8]) -> Result<(), Memory>
-        ensures ok { OnOk result (self.new ≡ self.old ++ piece.now) }
+    /// Adds two pieces at the end, or none: `Memory` leaves the list as it was.
+    pub(crate) fn append_two(&mut self, first: &[u8], second: &[u8]) -> Result<(), Memory>
+        requires { length self.old + length first.now + length second.now < 2 ^ 32 }
+        ensures ok { OnOk result (self.new ≡ self.old ++ first.now ++ second.now) }
         ensures err { OnErr result (self.new ≡ self.old) }
     {
-        if piece.len() > MOST - self.items.len() {
-            return Err(Memory);
-        }
-        self.items.extend_from_slice(piece)?;
+        self.items.reserve(first.len() + second.len())?;
+        self.items.extend_from_slice(first).unwrap();
+        self.items.extend_from_slice(second).unwrap();
         Ok(())
     }
 }

@@ -3,7 +3,8 @@ ghost use Rattle.std.specs.Io.{ReadsAtMost, WritesAtMost};
 ghost use Rattle.std.specs.Io.KnownBytes.{ReadConsumes, WriteAppends};
 ghost use Rattle.inc_base.specs.Outside.{HasCause, KeepsTelling, is_listed, is_failing, failed_call, served_call};
 
-use crate::list::{Bytes, List};
+use crate::bytes::Bytes;
+use crate::list::List;
 use crate::outside::{Failed, Sink, Source};
 use std::alloc::Global;
 use std::marker::Model;
@@ -120,7 +121,7 @@ impl MemSink {
         ensures { result ≡ record { bytes = []; failing = failing; calls = 0; faults = 0 } }
     {
         MemSink {
-            bytes: List::new(alloc),
+            bytes: Bytes::new(alloc),
             failing,
             calls: 0,
             faults: 0,

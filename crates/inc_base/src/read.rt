@@ -3,7 +3,7 @@ ghost use Rattle.std.specs.Io.KnownBytes.{Consumes, IsAtEnd};
 ghost use Rattle.inc_base.specs.Outside.{IsReadOut, KeepsTelling, Rose};
 ghost use Rattle.inc_base.specs.declared.read.ReadFault.TheVariants.{Source as SourceFailed, Memory as NoMemory};
 
-use crate::list::Bytes;
+use crate::bytes::Bytes;
 use crate::memory::Memory;
 use crate::outside::{Failed, Source};
 use std::alloc::Global;

@@ -41,7 +41,7 @@ impl File {
         ensures lock { result.lock ≡ Lock.Free }
     {
         File {
-            bytes: List::new(alloc),
+            bytes: Bytes::new(alloc),
             lock: Lock::Free,
         }
     }

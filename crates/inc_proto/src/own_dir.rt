@@ -10,7 +10,7 @@ ghost use Rattle.inc_proto.specs.OwnDirs.{change_by, made_site, left_site, next_
 mod asks;
 
 use crate::own::Known;
-use inc_base::{Bytes, Copied, Label, List, Memory};
+use inc_base::{Bytes, Copied, Label, Memory};
 use inc_fs::{Op, Reply, Table};
 use std::alloc::Global;
 use std::marker::Model;
@@ -164,7 +164,7 @@ fn put_created(files: &mut Table<Label, Known>, alloc: Global, file: &Label) -> 
         file.copy()?,
         Known {
             linked: None,
-            bytes: Some(List::new(alloc)),
+            bytes: Some(Bytes::new(alloc)),
         },
     )
 }

@@ -203,7 +203,7 @@ impl<R: Files<File = File> + AllocGlobal + Clock + Drop> Folder<R> {
         if bytes.len() as u64 > LONGEST {
             return Err(Stop::Failed(Failure::Length));
         }
-        Ok(Reply::Bytes(Bytes::from_vec(bytes)))
+        Ok(Reply::Bytes(Bytes::from_vec(bytes)?))
     }
 
     fn create(&self, krate: &Label, entry: &Label, file: &Label) -> Result<Reply, Stop>

@@ -1,4 +1,4 @@
-ghost use Rattle.std.specs.Prelude.{◌≡◌, ℕ, ◌++◌, ◌<◌, ◌^◌, List, length, IfOk, OnOk, OnErr};
+ghost use Rattle.std.specs.Prelude.{◌≡◌, ◌++◌, ◌<◌, ◌^◌, length, IfOk, OnOk, OnErr};
 ghost use Rattle.inc_wire.specs.Forms.{IsWidth, number_form, text_form, header_form, fields_form};
 
 use crate::header::Header;
@@ -29,14 +29,9 @@ pub fn put_text(to: &mut Bytes, b: &[u8]) -> Result<(), Memory>
     ensures ok { OnOk result (to.new ≡ to.old ++ text_form b.now) }
     ensures err { OnErr result (to.new ≡ to.old) }
 {
-    put_u32(to, b.len() as u32)?;
-    match to.append(b) {
-        Ok(()) => Ok(()),
-        Err(full) => {
-            drop_four(to);
-            Err(full)
-        }
-    }
+    let mut count = [0; 4];
+    BigEndian::write_u32(&mut count, b.len() as u32);
+    to.append_two(&count, b)
 }
 
 /// Appends a header. `Memory` where there is no room for it; the bytes are then as before.
@@ -98,14 +93,4 @@ fn put_u64(to: &mut Bytes, v: u64) -> Result<(), Memory>
     let mut bytes = [0; 8];
     BigEndian::write_u64(&mut bytes, v);
     to.append(&bytes)
-}
-
-/// Takes the last four bytes away.
-fn drop_four(to: &mut Bytes)
-    ensures { (front four : List ℕ) → length four ≡ 4 → to.old ≡ front ++ four → to.new ≡ front }
-{
-    to.drop_last();
-    to.drop_last();
-    to.drop_last();
-    to.drop_last();
 }

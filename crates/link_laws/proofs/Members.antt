@@ -29,6 +29,7 @@ use Rattle.rs_reach.proofs.Found.{is_added, may_below}
 use Rattle.rs_units.specs.Laws.{IsKnown, IsMember, IsReached, MembersOnce, MembersReached, NoneMissing}
 use Rattle.rs_units.specs.Members.{is_inline, member_numbers, place_numbered, wanted_of}
 use Rattle.rs_units.specs.Units.{has_own, is_own, units_of}
+use Rattle.rs_units.proofs.Numbers.{passing_numbers, places_contain}
 use Rattle.rs_queries.specs.Built.{tree_index}
 use Rattle.rs_queries.specs.Diagnosed.{calls_of}
 use Rattle.rs_queries.specs.Known.{answered, items_of, place_of}
@@ -36,47 +37,10 @@ use Rattle.link_laws.proofs.Lists.{at_number, contains_filter, contains_filter_m
 use Rattle.link_laws.proofs.Makes.{calls}
 use Rattle.link_laws.proofs.Places.{got_map, item_numbered, item_placed, map_some, name_numbered, names_differ, names_in, number_found, place_found, places_differ, the_item}
 
--- ---- Numbers that pass, and places at numbers.
-
-numbering : (p : IndexItem → Bool) (j : ℕ) (items : List IndexItem) (at i : ℕ) (x : IndexItem) → slice_get items at ≡ Some x → p x ≡ true → i ≡ j + at → Contains (numbers_where p j items) i
-numbering p j [] at i x is pass e = absurd cc
-numbering p j (y ∷ items) zero i x is pass e = by (p y) (ap p same ∙ pass)
-  where
-    same : y ≡ x
-    same = cc
-
-    by : (b : Bool) → b ≡ true → Contains (cond b (j ∷ numbers_where p (j + 1) items) (numbers_where p (j + 1) items)) i
-    by true h = (0, omega arith, omega (arith, e))
-    by false h = absurd cc
-numbering p j (y ∷ items) (suc at) i x is pass e = by (p y) (numbering p (j + 1) items at i x is pass (omega (arith, e)))
-  where
-    by : (b : Bool) → Contains (numbers_where p (j + 1) items) i → Contains (cond b (j ∷ numbers_where p (j + 1) items) (numbers_where p (j + 1) items)) i
-    by true h = later j (numbers_where p (j + 1) items) i h
-    by false h = h
-
-its_place : (o : Option Place) (p : Place) → Contains (option_to_list o) p → o ≡ Some p
-its_place None p h = absurd (omega (arith, h.1))
-its_place (Some q) p (zero, l, e) = ap Some e
-its_place (Some q) p (suc k, l, e) = absurd (omega (arith, l))
-
-number_at : (items : List IndexItem) (ns : List ℕ) (p : Place) → Contains (places_at items ns) p → (i : ℕ) × Contains ns i × (place_numbered items i ≡ Some p)
-number_at items [] p h = absurd (omega (arith, h.1))
-number_at items (n ∷ ns) p h = elim (Contains-append_cases (option_to_list (place_numbered items n)) (places_at items ns) p h) [
-  | inl here ↦ (n, first n ns, its_place (place_numbered items n) p here)
-  | inr there ↦ (let more = number_at items ns p there in (more.0, later n ns more.0 more.1, more.2))
-]
-
-place_at : (items : List IndexItem) (ns : List ℕ) (i : ℕ) (p : Place) → Contains ns i → place_numbered items i ≡ Some p → Contains (places_at items ns) p
-place_at items [] i p h e = absurd (omega (arith, h.1))
-place_at items (n ∷ ns) i p (zero, l, same) e =
-    let is : place_numbered items n ≡ Some p = ap (place_numbered items) same ∙ e in
-    Contains-append_left (option_to_list (place_numbered items n)) (places_at items ns) p (subst (λ (o : Option Place). Contains (option_to_list o) p) (sym is) (0, omega arith, refl))
-place_at items (n ∷ ns) i p (suc k, l, same) e = Contains-append_right (option_to_list (place_numbered items n)) (places_at items ns) p (place_at items ns i p (k, omega (arith, l), same) e)
+-- ---- The calls of a tree's items.
 
 number_within : (items : List IndexItem) (i : ℕ) → i < length items → (x : IndexItem) × (slice_get items i ≡ Some x)
 number_within items i l = elim (slice_get_cases items i).1 [ inl h ↦ (h.0, h.2) | inr h ↦ absurd (omega (arith, h.0, l)) ]
-
--- ---- The calls of a tree's items.
 
 -- what the paths of an item lead to, and what it calls
 abbrev pub found_of : Crate → Placed → List Found
@@ -118,7 +82,7 @@ module _ (krate : Crate) (tidy : IsTidyCrate krate) where
       let passes : slice_index_or may j false ≡ true = get_or_from_slice_get may j true false (got_map is_function items j (the_item q) here ∙ ap Some function) in
       let listed = contains_filter_map (λ (r : Place). place_from (place_name r) 0 (names_in krate)) (called_of krate p) (place_of q) j has found in
       let kept = is_added may (numbers (names_in krate) (called_of krate p)) [] j listed passes in
-      let placed = place_at items (added may [] (numbers (names_in krate) (called_of krate p))) j (place_of q) kept (ap (option_map dead.place_of) here) in
+      let placed = (places_contain items (added may [] (numbers (names_in krate) (called_of krate p))) (place_of q)).1 (j, kept, ap (option_map dead.place_of) here) in
       contains_filter_map (λ (r : Place). place_from (place_name r) 0 (names_in krate)) (callees krate p) (place_of q) j placed found
 
   numbered_once : (i j : ℕ) (q : Place) → place_numbered items i ≡ Some q → place_numbered items j ≡ Some q → i ≡ j
@@ -149,13 +113,13 @@ module _ (krate : Crate) (tidy : IsTidyCrate krate) where
           let within = All-contains (λ r. r < length items) (member_numbers unit items (calls krate)) i (once unit items (calls krate)).below has in
           let x = number_within items i within in
           let here : place_numbered items i ≡ Some (dead.place_of x.0) = ap (option_map dead.place_of) x.1 in
-          let its = (reached unit items (calls krate) none_wanted (dead.place_of x.0)).0 (place_at items (member_numbers unit items (calls krate)) i (dead.place_of x.0) has here) in
+          let its = (reached unit items (calls krate) none_wanted (dead.place_of x.0)).0 ((places_contain items (member_numbers unit items (calls krate)) (dead.place_of x.0)).1 (i, has, here)) in
           subst (IsMember unit items (calls krate)) (numbered_once its.0 i (dead.place_of x.0) its.2 here) its.1
 
       pub numbered_member : (i : ℕ) → IsMember unit items (calls krate) i → Contains (member_numbers unit items (calls krate)) i
       numbered_member i m =
           let here : place_numbered items i ≡ Some (dead.place_of m.item) = ap (option_map dead.place_of) m.numbered in
-          let its = number_at items (member_numbers unit items (calls krate)) (dead.place_of m.item) ((reached unit items (calls krate) none_wanted (dead.place_of m.item)).1 (i, m, here)) in
+          let its = (places_contain items (member_numbers unit items (calls krate)) (dead.place_of m.item)).0 ((reached unit items (calls krate) none_wanted (dead.place_of m.item)).1 (i, m, here)) in
           subst (Contains (member_numbers unit items (calls krate))) (numbered_once its.0 i (dead.place_of m.item) its.2 here) its.1
 
   -- ---- Calls of members.
@@ -169,7 +133,7 @@ module _ (krate : Crate) (tidy : IsTidyCrate krate) where
       here = item_numbered krate tidy j q there
 
       root : is_own unit m.item ≡ true → Contains (numbers_where (is_own unit) 0 items) i
-      root own = numbering (is_own unit) 0 items i i m.item m.numbered own (omega arith)
+      root own = (passing_numbers (is_own unit) items i).1 (m.item, m.numbered, own)
 
       step : Calls (map is_inline items) asks i j
       step = (numbers (names_in krate) (callees krate p), asked i p at, called_number p q j there function has, get_or_from_slice_get (map is_inline items) j true false (got_map is_inline items j (the_item q) here ∙ ap Some inline))

@@ -1,12 +1,12 @@
 //! The lexer's times.
 
+use crate::clock::least;
 use crate::text::{Piece, Shape, text_of};
 use crate::{LARGE, SMALL};
 use rs_lex::lex;
 use std::alloc::Global;
 use std::io;
-use std::rt::Runtime;
-use std::time::{Duration, Instant};
+use std::time::CpuClock;
 
 pub const SHAPES: [Shape; 6] = [
     Shape {
@@ -55,26 +55,19 @@ fn count(alloc: Global, text: &[u8]) -> usize {
     }
 }
 
-/// The least time of ten runs.
-fn least<R: Runtime>(rt: &R, alloc: Global, text: &[u8]) -> io::Result<Duration> {
-    let mut least = Duration::MAX;
-    for _ in 0..10 {
-        let start = Instant::now(rt)?;
-        let _tokens = count(alloc, text);
-        least = least.min(start.elapsed(rt)?);
-    }
-    Ok(least)
-}
-
 /// Prints the tokens of a small and of a large text of that shape, and the times.
-pub fn measure<R: Runtime>(rt: &R, alloc: Global, shape: &Shape) -> io::Result<()> {
+pub fn measure<R: Print + Eprint + CpuClock>(
+    rt: &R,
+    alloc: Global,
+    shape: &Shape,
+    runs: u32,
+) -> io::Result<()> {
     let small = text_of(alloc, shape, SMALL)?;
     let large = text_of(alloc, shape, LARGE)?;
-    let (small, large) = (small.as_bytes(), large.as_bytes());
+    let (few, short) = least(rt, runs, || count(alloc, small.as_bytes()))?;
+    let (many, long) = least(rt, runs, || count(alloc, large.as_bytes()))?;
     let name = shape.name;
-    println!(rt; "{name}: {} {}", count(alloc, small), count(alloc, large))?;
-    let short = least(rt, alloc, small)?.as_micros();
-    let long = least(rt, alloc, large)?.as_micros();
+    println!(rt; "{name}: {few} {many}")?;
     let percent = long.saturating_mul(100) / short.max(1);
     eprintln!(rt; "{name}: {short} and {long} microseconds, {percent} percent")?;
     Ok(())

@@ -1,5 +1,6 @@
 //! The parser's times, without the lexer's.
 
+use crate::clock::least;
 use crate::text::{Piece, Shape, text_of};
 use crate::{LARGE, SMALL};
 use rs_lex::{end_of, lex};
@@ -7,8 +8,7 @@ use rs_parse::parse;
 use rs_tree::{At, Token};
 use std::alloc::Global;
 use std::io;
-use std::rt::Runtime;
-use std::time::{Duration, Instant};
+use std::time::CpuClock;
 
 pub const SHAPES: [Shape; 6] = [
     Shape {
@@ -73,23 +73,13 @@ fn count(alloc: Global, text: &Lexed<'_>) -> usize {
     }
 }
 
-/// The least time of ten runs.
-fn least<R: Runtime>(rt: &R, alloc: Global, text: &Lexed<'_>) -> io::Result<Duration> {
-    let mut least = Duration::MAX;
-    for _ in 0..10 {
-        let start = Instant::now(rt)?;
-        let _tokens = count(alloc, text);
-        least = least.min(start.elapsed(rt)?);
-    }
-    Ok(least)
-}
-
 /// How many tokens stand in the items of a text of that size, and how many microseconds its parse took.
-fn time<R: Runtime>(
-    rt: &R,
+fn time(
+    rt: &impl CpuClock,
     alloc: Global,
     shape: &Shape,
     size: usize,
+    runs: u32,
 ) -> io::Result<(usize, u128)> {
     let text = text_of(alloc, shape, size)?;
     let Ok(end) = end_of(text.as_bytes()) else {
@@ -102,14 +92,18 @@ fn time<R: Runtime>(
         tokens: tokens.as_slice(),
         end,
     };
-    let took = least(rt, alloc, &lexed)?;
-    Ok((count(alloc, &lexed), took.as_micros()))
+    least(rt, runs, || count(alloc, &lexed))
 }
 
 /// Prints the tokens of a small and of a large text of that shape, and the times.
-pub fn measure<R: Runtime>(rt: &R, alloc: Global, shape: &Shape) -> io::Result<()> {
-    let (few, short) = time(rt, alloc, shape, SMALL)?;
-    let (many, long) = time(rt, alloc, shape, LARGE)?;
+pub fn measure<R: Print + Eprint + CpuClock>(
+    rt: &R,
+    alloc: Global,
+    shape: &Shape,
+    runs: u32,
+) -> io::Result<()> {
+    let (few, short) = time(rt, alloc, shape, SMALL, runs)?;
+    let (many, long) = time(rt, alloc, shape, LARGE, runs)?;
     let percent = long.saturating_mul(100) / short.max(1);
     let name = shape.name;
     println!(rt; "{name}: {few} {many}")?;

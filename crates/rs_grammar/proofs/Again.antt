@@ -105,15 +105,16 @@ calm base u front a back e h before rest z =
 
 -- an item of a text
 
-record FromItem (u : List Lexeme) (p : Placed) : Type 0 where
-  name : List ℕ
-  sited : Sited
-  is : p ≡ placed_in name sited
-  front : List Lexeme
-  tokens : List Lexeme
-  back : List Lexeme
-  parts : u ≡ front ++ (tokens ++ back)
-  item : Matches _ (Nt Item) tokens sited
+-- its tokens stand together in the text, and match it
+pub record FromItem (u : List Lexeme) (p : Placed) : Type 0 where
+  pub name : List ℕ
+  pub sited : Sited
+  pub is : p ≡ placed_in name sited
+  pub front : List Lexeme
+  pub tokens : List Lexeme
+  pub back : List Lexeme
+  pub parts : u ≡ front ++ (tokens ++ back)
+  pub item : Matches _ (Nt Item) tokens sited
 
 behind : {u : List Lexeme} {p : Placed} (pre : List Lexeme) → FromItem u p → FromItem (pre ++ u) p
 behind pre f = record {
@@ -177,7 +178,7 @@ in_parts (m-turn {a} {b} {x} {xs} m n) before rest p e =
       | inr q ↦ behind a (in_parts n q.0 rest p q.2)
     ]
 
-in_text : {u : List Lexeme} {ps : List Section} → FitsCrate u ps → (before rest : List Placed) (p : Placed) → items_of ps ≡ before ++ p ∷ rest → FromItem u p
+pub in_text : {u : List Lexeme} {ps : List Section} → FitsCrate u ps → (before rest : List Placed) (p : Placed) → items_of ps ≡ before ++ p ∷ rest → FromItem u p
 in_text (m-nt m) before rest p e = in_parts m before rest p e
 
 pub items_parse_again : ItemsParseAgain

@@ -252,7 +252,7 @@ fn place_of(alloc: Global, key: Key<'_>) -> Result<Place, Memory>
     ensures { IfOk result (λ p. p ≡ record { «module» = (plain key.entry).0; name = (plain key.entry).1 }) }
 {
     Ok(Place {
-        module: List::of(alloc, key.0)?,
-        name: List::of(alloc, key.1)?,
+        module: Bytes::of(alloc, key.0)?,
+        name: Bytes::of(alloc, key.1)?,
     })
 }

@@ -1,11 +1,7 @@
--- Known bytes that grow or shrink twice.
-use Rattle.std.proofs.Common.{ℕ, List, [], ◌++◌, append_assoc, append-nil, ap, ◌∙◌, sym, refl, Some, None}
+-- Known bytes that grow twice.
+use Rattle.std.proofs.Common.{ℕ, List, ◌++◌, append_assoc, ap, ◌∙◌, Some, None}
 use Rattle.std.specs.Prelude.{Option}
-use Rattle.std.specs.Io.KnownBytes.{Appends, Consumes, Keeps}
-
-pub appends_nothing : (known : Option (List ℕ)) → Appends known known []
-appends_nothing None = tt
-appends_nothing (Some bytes) = sym (append-nil bytes)
+use Rattle.std.specs.Io.KnownBytes.{Appends, Keeps}
 
 pub appends_twice : (a b c : Option (List ℕ)) (x y : List ℕ) → Appends a b x → Appends b c y → Appends a c (x ++ y)
 appends_twice None b c x y p q = tt
@@ -18,13 +14,3 @@ appends_kept None b c x p k = tt
 appends_kept (Some a) None c x p k = absurd p
 appends_kept (Some a) (Some b) None x p k = absurd k
 appends_kept (Some a) (Some b) (Some c) x p k = k ∙ p
-
-pub consumes_nothing : (known : Option (List ℕ)) → Consumes known known []
-consumes_nothing None = tt
-consumes_nothing (Some bytes) = refl
-
-pub consumes_twice : (a b c : Option (List ℕ)) (x y : List ℕ) → Consumes a b x → Consumes b c y → Consumes a c (x ++ y)
-consumes_twice None b c x y p q = tt
-consumes_twice (Some a) None c x y p q = absurd p
-consumes_twice (Some a) (Some b) None x y p q = absurd q
-consumes_twice (Some a) (Some b) (Some c) x y p q = p ∙ ap (λ bytes. x ++ bytes) q ∙ sym (append_assoc x y c)

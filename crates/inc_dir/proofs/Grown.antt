@@ -6,18 +6,18 @@ use Rattle.std.proofs.lemmas.List.Elements.{filter-append}
 use Rattle.std.proofs.Math.Seq.{drop-length}
 use Rattle.inc_base.specs.declared.job.Job.{Job}
 use Rattle.inc_fs.specs.State.{IsIn}
-use Rattle.inc_fs.specs.Kinds.{IsKindOf, step_kind}
 use Rattle.inc_fs.specs.declared.op.Op.{Op}
 use Rattle.inc_fs.specs.declared.op.Op.TheVariants.{Rename}
 use Rattle.inc_fs.specs.declared.op.Reply.{Reply}
 use Rattle.inc_proto.specs.declared.event.Event.{Event}
-use Rattle.inc_proto.specs.declared.event.Event.TheVariants.{Begin, Did}
-use Rattle.inc_proto.specs.Events.{Steps, is_running, job_of, own_steps, latest}
+use Rattle.inc_proto.specs.declared.event.Event.TheVariants.{Did}
+use Rattle.inc_proto.specs.Events.{latest}
 use Rattle.inc_proto.specs.Files.{Files}
 use Rattle.inc_proto.specs.Growth.{Grows, IsNumbered, IsOfOthers}
 use Rattle.inc_proto.specs.GrowthLaws.{of_other}
-use Rattle.inc_proto.specs.Legal.{World, IsLegal, MayDo, sighted, view_of}
+use Rattle.inc_proto.specs.Legal.{World, IsLegal, MayDo, view_of}
 use Rattle.inc_proto.specs.LegalLaws.{others_keep_may, others_keep_view}
+use Rattle.inc_proto.proofs.Anys.{in_at, in_end, in_last, in_left}
 use Rattle.inc_dir.specs.Promises.{IsOwed, IsPublishing, IsRename, TellsStep}
 use Rattle.inc_dir.specs.Memories.{Remembering, AreMade, IsMade, HasLooked, HasActed, HasAnswered, due_of, is_due, session_of}
 use Rattle.inc_dir.specs.Kept.{IsKept}
@@ -102,10 +102,6 @@ grown_by files own old mid new last adds is numbered legal = record {
   possible = λ _. legal;
 }
 
--- nobody did anything
-pub adds_none : (own : List ℕ) (history : List Event) → Adds own history history
-adds_none own history = record { others = []; is = refl; by_others = tt }
-
 -- ---- The own step.
 
 publishing_renames : (op : Op) → IsPublishing op → IsRename op
@@ -134,78 +130,39 @@ answered_tells files old new op reply answered legal = elim answered.own [
       stepped.history tt legal)
 ]
 
--- and of the step's row
-pub answered_kind : (files : Files) (old new : Remembering) (op : Op) (reply : Reply) → HasAnswered files old op reply new → IsKindOf op reply
-answered_kind files old new op reply answered = elim answered.own [
-  | inl refused ↦ subst (λ reply. IsKindOf op reply) (sym refused.refusal.1) refl
-  | inr stepped ↦ step_kind answered.mid.state (session_of old) op reply new.world.state stepped.step.step
-]
-
 -- ---- The latest session runs on.
 
-some_sight : (runs : Bool) (job : Option Job) (steps more : Steps) → IsSome (cond runs (sighted job steps) None) → IsSome (cond runs (sighted job more) None)
-some_sight true None steps more some = absurd (cc)
-some_sight true (Some job) steps more some = refl
-some_sight false job steps more some = some
-
--- it sees something still after a step,
-pub seen_on : (who number : ℕ) (op : Op) (reply : Reply) (history : List Event) → IsSome (view_of who history) → IsSome (view_of who (Did number op reply ∷ history))
-seen_on who number op reply history some = some_sight (is_running who history) (job_of who history) (own_steps who history) (own_steps who (Did number op reply ∷ history)) some
-
--- after others' steps,
+-- it sees something still after others' steps,
 pub seen_beside : (own : List ℕ) (who : ℕ) (old new : List Event) → IsIn own who → Adds own old new → IsSome (view_of who old) → IsSome (view_of who new)
 seen_beside own who old new its adds some =
     subst (λ h. IsSome (view_of who h)) (sym adds.is)
     (subst (λ sight. IsSome sight) (sym (others_keep_view who adds.others old (of_other own who its adds.others adds.by_others))) some)
 
--- and once it has begun
-pub seen_begun : (who : ℕ) (job : Job) (history : List Event) → IsSome (view_of who (Begin who job ∷ history))
-seen_begun who job history = subst (λ b. IsSome (cond (cond b true (is_running who history)) (sighted (cond b (Some job) (job_of who history)) (cond b [] (own_steps who history))) None)) (sym (eq-eqb who who refl)) refl
-
 -- ---- Lists that stand the other way round.
-
-in_either : (xs ys : List ℕ) (x : ℕ) → IsIn (xs ++ ys) x → IsIn xs x ⊎ IsIn ys x
-in_either [] ys x h = inr h
-in_either (y ∷ xs) ys x (inl is) = inl (inl is)
-in_either (y ∷ xs) ys x (inr h) = elim (in_either xs ys x h) [ inl l ↦ inl (inr l) | inr r ↦ inr r ]
-
-in_front : (xs ys : List ℕ) (x : ℕ) → IsIn xs x → IsIn (xs ++ ys) x
-in_front [] ys x its = absurd its
-in_front (y ∷ xs) ys x (inl is) = inl is
-in_front (y ∷ xs) ys x (inr h) = inr (in_front xs ys x h)
-
-in_back : (xs ys : List ℕ) (x : ℕ) → IsIn ys x → IsIn (xs ++ ys) x
-in_back [] ys x h = h
-in_back (y ∷ xs) ys x h = inr (in_back xs ys x h)
 
 turned_in : (xs : List ℕ) (x : ℕ) → IsIn (reverse xs) x → IsIn xs x
 turned_in [] x h = h
-turned_in (y ∷ xs) x h = elim (in_either (reverse xs) (y ∷ []) x (subst (λ l. IsIn l x) (reverse-append (y ∷ []) xs) h)) [
+turned_in (y ∷ xs) x h = elim (in_last (reverse xs) y x (subst (λ l. IsIn l x) (reverse-append (y ∷ []) xs) h)) [
   | inl l ↦ inr (turned_in xs x l)
-  | inr r ↦ elim r [ inl is ↦ inl is | inr none ↦ absurd none ]
+  | inr is ↦ inl is
 ]
 
 in_turned : (xs : List ℕ) (x : ℕ) → IsIn xs x → IsIn (reverse xs) x
 in_turned [] x its = absurd its
-in_turned (y ∷ xs) x (inl is) = subst (λ l. IsIn l x) (sym (reverse-append (y ∷ []) xs)) (in_back (reverse xs) (y ∷ []) x (inl is))
-in_turned (y ∷ xs) x (inr h) = subst (λ l. IsIn l x) (sym (reverse-append (y ∷ []) xs)) (in_front (reverse xs) (y ∷ []) x (in_turned xs x h))
+in_turned (y ∷ xs) x (inl is) = subst (λ l. IsIn l x) (sym (reverse-append (y ∷ []) xs)) (in_end (reverse xs) y x is)
+in_turned (y ∷ xs) x (inr h) = subst (λ l. IsIn l x) (sym (reverse-append (y ∷ []) xs)) (in_left (reverse xs) (y ∷ []) x (in_turned xs x h))
 
 in_contained : (xs : List ℕ) (x : ℕ) → IsIn xs x → Contains xs x
 in_contained [] x its = absurd its
 in_contained (y ∷ xs) x (inl is) = (zero, omega arith, is)
 in_contained (y ∷ xs) x (inr h) = let found = in_contained xs x h in (suc found.0, omega (arith, found.1), found.2)
 
-contained_in : (xs : List ℕ) (x k : ℕ) → k < length xs → slice_index_or xs k x ≡ x → IsIn xs x
-contained_in [] x k within is = absurd (omega (arith, within))
-contained_in (y ∷ xs) x zero within is = inl is
-contained_in (y ∷ xs) x (suc k) within is = inr (contained_in xs x k (omega (arith, within)) is)
-
 -- what isn't contained isn't in the turned list, and the other way round
 pub apart_turned : (xs : List ℕ) (x : ℕ) → ¬ Contains xs x → ¬ IsIn (reverse xs) x
 apart_turned xs x apart its = apart (in_contained xs x (turned_in xs x its))
 
 pub turned_apart : (xs : List ℕ) (x : ℕ) → ¬ IsIn (reverse xs) x → ¬ Contains xs x
-turned_apart xs x apart its = apart (in_turned xs x (contained_in xs x its.0 its.1 its.2))
+turned_apart xs x apart its = apart (in_turned xs x (in_at xs its.0 x x its.1 its.2))
 
 -- ---- An act.
 

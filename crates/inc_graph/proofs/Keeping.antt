@@ -1,14 +1,13 @@
 -- A value that was taken is kept where it passes.
 use Rattle.std.proofs.Common.{ℕ, List, [], ◌∷◌, Option, Some, None, All, sym, subst}
-use Rattle.std.proofs.lemmas.List.Elements.{All-nil, All-cons, All-head, All-tail}
+use Rattle.std.proofs.lemmas.List.Elements.{All-nil, All-cons}
 use Rattle.inc_wire.specs.Fits.{Each, FitsList}
 use Rattle.inc_wire.specs.Narrow.{Both, narrow_kept, narrow_refused}
 use Rattle.inc_wire.specs.Readings.{IsTaken, Takes}
 use Rattle.inc_graph.specs.declared.node.Node.{Node}
-use Rattle.inc_graph.specs.Forms.{FitsGraph, FitsNode, HasRanges}
-use Rattle.inc_graph.specs.Graphs.{HasQuery, IsGraph}
+use Rattle.inc_graph.specs.Forms.{FitsNode}
+use Rattle.inc_graph.specs.Graphs.{HasQuery}
 use Rattle.inc_graph.specs.Kept.{IsKept}
-use Rattle.inc_graph.proofs.Tested.{queries_from}
 
 pub takes_kept : {X : Type 0} (P Q : X → Type 0) (form : X → List ℕ) (before after : List ℕ) (x : X) (kept : Option X) → IsTaken P form before after x → IsKept Q x kept → Takes (Both P Q) form before after kept
 takes_kept P Q form before after x None took not = narrow_refused P Q form before after x took not
@@ -21,11 +20,3 @@ queries_each (x ∷ xs) h = All-cons HasQuery x xs h.0.more (queries_each xs h.1
 
 pub queries_fit : (nodes : List Node) → FitsList FitsNode nodes → All HasQuery nodes
 queries_fit nodes fits = queries_each nodes fits.each
-
-nodes_each : (nodes : List Node) → Each HasRanges nodes → All HasQuery nodes → Each FitsNode nodes
-nodes_each [] ranges has = tt
-nodes_each (x ∷ xs) ranges has = (record { fits = ranges.0; more = All-head HasQuery x xs has }, nodes_each xs ranges.1 (All-tail HasQuery x xs has))
-
--- a graph whose nodes are in their ranges fits
-pub graph_fits : (nodes : List Node) → FitsList HasRanges nodes → IsGraph nodes → FitsGraph nodes
-graph_fits nodes ranges graph = record { fits = record { few = ranges.few; each = nodes_each nodes ranges.each (queries_from nodes graph) }; more = graph }

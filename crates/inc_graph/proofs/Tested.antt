@@ -105,10 +105,6 @@ graph_decides nodes has =
       λ g. both_true (sorted.1 g.ascend) (nodes_test nodes nodes g.each),
     )
 
--- the queries of a graph are those of one
-pub queries_from : (nodes : List Node) → IsGraph nodes → All HasQuery nodes
-queries_from nodes g = λ k d below. (g.each k d below).query
-
 value_below_tells : (x y : ℕ × List ℕ) → Decides (is_value_below x y) (nat_cmp x.0 y.0 ≡ Less)
 value_below_tells x y = go (nat_lt x.0 y.0) refl
   where

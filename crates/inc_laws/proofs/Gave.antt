@@ -34,13 +34,14 @@ use Rattle.inc_proto.specs.Legal.{AreAllowed, IsLegal}
 use Rattle.inc_proto.specs.LegalLaws.{legal_before}
 use Rattle.inc_proto.specs.Permits.{MayLink}
 use Rattle.inc_proto.specs.Views.{HasAny, dir, name}
+use Rattle.inc_proto.proofs.Anys.{in_right}
 use Rattle.inc_laws.specs.Loads.{IsLink, LinksHeld, HasLoad, WasGiven, GaveSet}
 use Rattle.inc_laws.specs.Parts.{IsBytes, HoldsSet}
 use Rattle.inc_laws.specs.Readings.{head_of, jobs_of, names_of, sites_of}
 use Rattle.inc_laws.specs.Readings.Site.{Out}
 use Rattle.inc_laws.proofs.InPlace.{some_same}
 use Rattle.inc_laws.proofs.Lasting.{may_parts, laws_hold}
-use Rattle.inc_laws.proofs.Newest.{in_rest, published_outs, outs_published}
+use Rattle.inc_laws.proofs.Newest.{published_outs, outs_published}
 use Rattle.inc_laws.proofs.Own.{Owners, out_name, one_out}
 use Rattle.inc_laws.proofs.Ranges.{hash_small}
 use Rattle.inc_laws.proofs.Whole.{Ascend, set_keys, lookup_in, key_in, published_sorted, file_bytes}
@@ -119,7 +120,7 @@ published_last (Did w op reply ∷ later) earlier made within = go (is_publishin
   where
     go : (b : Bool) → IsIn (published (later ++ earlier)) made
         → IsIn (cond b (publication (name (own_steps w (later ++ earlier))) (job_of w (later ++ earlier)) ++ published (later ++ earlier)) (published (later ++ earlier))) made
-    go true old = in_rest (publication (name (own_steps w (later ++ earlier))) (job_of w (later ++ earlier))) (published (later ++ earlier)) made old
+    go true old = in_right (publication (name (own_steps w (later ++ earlier))) (job_of w (later ++ earlier))) (published (later ++ earlier)) made old
     go false old = old
 
 -- one job at most was published under an entry of a crate

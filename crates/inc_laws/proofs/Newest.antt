@@ -32,6 +32,7 @@ use Rattle.inc_proto.specs.Legal.{MayDo, AreAllowed}
 use Rattle.inc_proto.specs.Permits.{IsPermitted}
 use Rattle.inc_proto.specs.Views.{Dir, dir, dir_after, name, is_here, same_text}
 use Rattle.inc_proto.specs.Views.Dir.{Unmade, Stands, Removed, Published}
+use Rattle.inc_proto.proofs.Anys.{in_right}
 use Rattle.inc_laws.specs.Laws.{Laws}
 use Rattle.inc_laws.specs.Parts.{HoldsSet}
 use Rattle.inc_laws.specs.Readings.{running, head_of, jobs_of, names_of, sites_of, site_of}
@@ -247,10 +248,6 @@ module _ (files : Files) (H : List Event) (F : State) (l : Laws files H F) where
       go (Rename krate from to) reply d at is p = cc
       go op reply d at is p = cc
 
-pub in_rest : {X : Type 0} (xs ys : List X) (x : X) → IsIn ys x → IsIn (xs ++ ys) x
-in_rest [] ys x h = h
-in_rest (y ∷ xs) ys x h = inr (in_rest xs ys x h)
-
 -- what was published is out
 pub published_outs : (files : Files) (events : List Event) (G : State) → LeadsTo events G → AreAllowed files events → (made : Publication) → IsIn (published events) made → IsOuts events made
 published_outs files [] G leads allowed made at = absurd at
@@ -292,7 +289,7 @@ outs_published files (Left number op cut ∷ H) G (F, leads, is) allowed who k e
 outs_published files (Did w op reply ∷ H) G (F, leads, is) allowed who k e out = go (λ before. outs_published files H F leads allowed.0 who k e before) (same_number w who)
   where
     grows : (b : Bool) (made : Publication) → IsIn (published H) made → IsIn (cond b (publication (name (own_steps w H)) (job_of w H) ++ published H) (published H)) made
-    grows true made within = in_rest (publication (name (own_steps w H)) (job_of w H)) (published H) made within
+    grows true made within = in_right (publication (name (own_steps w H)) (job_of w H)) (published H) made within
     grows false made within = within
 
     old : (sites_of H who ≡ Out k e → (made : Publication) × IsIn (published H) made × (made.job.krate ≡ k) × (entry_of made ≡ e)) → sites_of H who ≡ Out k e → (made : Publication) × IsIn (published (Did w op reply ∷ H)) made × (made.job.krate ≡ k) × (entry_of made ≡ e)

@@ -42,6 +42,15 @@ in_left [] ys x is = absurd is
 in_left (y ∷ xs) ys x (inl is) = inl is
 in_left (y ∷ xs) ys x (inr is) = inr (in_left xs ys x is)
 
+pub in_right : {X : Type 0} (xs ys : List X) (x : X) → IsIn ys x → IsIn (xs ++ ys) x
+in_right [] ys x is = is
+in_right (y ∷ xs) ys x is = inr (in_right xs ys x is)
+
+pub in_either : {X : Type 0} (xs ys : List X) (x : X) → IsIn (xs ++ ys) x → IsIn xs x ⊎ IsIn ys x
+in_either [] ys x is = inr is
+in_either (y ∷ xs) ys x (inl is) = inl (inl is)
+in_either (y ∷ xs) ys x (inr is) = elim (in_either xs ys x is) [ inl here ↦ inl (inr here) | inr there ↦ inr there ]
+
 pub in_end : {X : Type 0} (xs : List X) (y x : X) → y ≡ x → IsIn (xs ++ y ∷ []) x
 in_end [] y x is = inl is
 in_end (z ∷ xs) y x is = inr (in_end xs y x is)

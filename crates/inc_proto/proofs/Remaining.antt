@@ -21,7 +21,7 @@ use Rattle.inc_proto.specs.declared.index.Left.{Left}
 use Rattle.inc_proto.specs.Events.{Steps}
 use Rattle.inc_proto.specs.Lefts.{IsDirOf, IsLeft, AreLeft, Was, IsLocked, IsWith, IsWithout, IsLeftBy}
 use Rattle.inc_proto.specs.Views.{same_text, without, left_by, left_after}
-use Rattle.inc_proto.proofs.Anys.{in_left, in_end, in_last}
+use Rattle.inc_proto.proofs.Anys.{in_left, in_right, in_either, in_end, in_last}
 use Rattle.inc_proto.proofs.Tells.{one_more, itself, set_here, set_there}
 
 at_some : {A : Type 0} (P : A → Type 0) (o : Option A) (x : A) → o ≡ Some x → IfSome o P → P x
@@ -30,15 +30,6 @@ at_some P o x is f = subst (λ o. IfSome o P) is f
 if_some : {A : Type 0} (P Q : A → Type 0) (o : Option A) → ((x : A) → P x → Q x) → IfSome o P → IfSome o Q
 if_some P Q None f is = is
 if_some P Q (Some x) f is = f x is
-
-in_right : {X : Type 0} (xs ys : List X) (x : X) → IsIn ys x → IsIn (xs ++ ys) x
-in_right [] ys x is = is
-in_right (y ∷ xs) ys x is = inr (in_right xs ys x is)
-
-in_either : {X : Type 0} (xs ys : List X) (x : X) → IsIn (xs ++ ys) x → IsIn xs x ⊎ IsIn ys x
-in_either [] ys x is = inr is
-in_either (y ∷ xs) ys x (inl is) = inl (inl is)
-in_either (y ∷ xs) ys x (inr is) = one_more (λ here. inl (inr here)) inr (in_either xs ys x is)
 
 pair_of : {k krate l lock : Text} → k ≡ krate → l ≡ lock → ◌≡◌ {A = Path} (k, l) (krate, lock)
 pair_of ks ls = λ i. (ks i, ls i)

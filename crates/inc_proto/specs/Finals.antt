@@ -1,5 +1,5 @@
--- What a history has published, and what a session has loaded of it.
-use Rattle.std.specs.Prelude.{◌≡◌, ◌≢◌, ◌≤◌, ◌++◌, ℕ, Bool, false, if◌then◌else◌, List, [], ◌∷◌, Option, Some, None, length}
+-- What a history has published.
+use Rattle.std.specs.Prelude.{◌≡◌, ◌++◌, ℕ, Bool, false, if◌then◌else◌, List, [], ◌∷◌, Option, Some, None}
 use Rattle.std.specs.Map.{keys_of}
 use Rattle.std.specs.Option.{option_map}
 use Rattle.std.specs.Ordering.{match_ordering}
@@ -8,18 +8,17 @@ use Rattle.inc_fs.specs.State.{State, folder_at, file_at}
 use Rattle.inc_fs.specs.Lists.{IsIn}
 use Rattle.inc_fs.specs.Paths.{Text}
 use Rattle.inc_fs.specs.declared.op.Op.{Op}
-use Rattle.inc_fs.specs.declared.op.Op.TheVariants.{ListDir, Link, Rename, Close}
+use Rattle.inc_fs.specs.declared.op.Op.TheVariants.{Rename}
 use Rattle.inc_fs.specs.declared.op.Reply.{Reply}
-use Rattle.inc_fs.specs.declared.op.Reply.TheVariants.{Names, Done}
+use Rattle.inc_fs.specs.declared.op.Reply.TheVariants.{Done}
 use Rattle.inc_names.specs.declared.session.SessionName.{SessionName}
-use Rattle.inc_names.specs.Entries.{final_text, name_order, IsSessionName}
+use Rattle.inc_names.specs.Entries.{final_text, name_order}
 use Rattle.inc_wire.specs.Forms.{job_hash_of}
 use Rattle.inc_proto.specs.declared.event.Event.{Event}
 use Rattle.inc_proto.specs.declared.event.Event.TheVariants.{Begin, Did, Left}
-use Rattle.inc_proto.specs.Events.{Steps, own_steps, job_of}
-use Rattle.inc_proto.specs.Views.{same_text, is_here, name, Dir, dir, HasDone}
+use Rattle.inc_proto.specs.Events.{own_steps, job_of}
+use Rattle.inc_proto.specs.Views.{same_text, is_here, name, Dir, dir}
 use Rattle.inc_proto.specs.Views.Dir.{Stands}
-use Rattle.inc_proto.specs.Permits.{HoldsOpened, IsHash}
 
 -- ---- What was published.
 
@@ -72,30 +71,3 @@ pub record IsWhole (F : State) (krate entry : Text) (set : List (Text × Text)) 
   pub stands : folder_at F krate entry ≡ Some folder
   pub names : keys_of folder ≡ keys_of set
   pub bytes : (file bytes : Text) → IsIn set (file, bytes) → option_map (λ found. found.1.bytes) (file_at F krate entry file) ≡ Some bytes
-
--- ---- What was loaded.
-
--- A whole load of the files under these names, of n's finalised directory: before it the session held n by a handle that
--- it opened; with its steps, none of which closed that handle, each of the names, of which there are some, was linked.
-pub record IsWholeLoad (krate : Text) (n : SessionName) (hash : ℕ) (names : List Text) (links before : Steps) : Type 0 where
-  pub named : IsSessionName n × IsHash hash
-  pub some : names ≢ []
-  pub handle : ℕ
-  pub after : Steps
-  pub holds : HoldsOpened krate n before handle after
-  pub open_still : ¬ HasDone (Close handle) links
-  pub linked : (file : Text) → IsIn names file → (to : Text) × HasDone (Link krate (final_text n hash) to file) links
-
--- A whole load stands before these later steps: it began with a `ListDir` of that directory, which listed the names.
-pub record HasLoaded (krate : Text) (n : SessionName) (hash : ℕ) (steps later : Steps) : Type 0 where
-  pub links : Steps
-  pub before : Steps
-  pub names : List Text
-  pub is : steps ≡ later ++ (links ++ (ListDir krate (final_text n hash), Names names) ∷ before)
-  pub load : IsWholeLoad krate n hash names links before
-
--- The entry of n with that hash is what the session has loaded: no whole load ended later than one of it.
-pub record IsLoaded (krate : Text) (n : SessionName) (hash : ℕ) (steps : Steps) : Type 0 where
-  pub later : Steps
-  pub has : HasLoaded krate n hash steps later
-  pub latest : (m : SessionName) (other : ℕ) (sooner : Steps) → HasLoaded krate m other steps sooner → length later ≤ length sooner

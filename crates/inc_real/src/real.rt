@@ -76,7 +76,9 @@ impl<R: Files<File = File> + AllocGlobal + Clock + Drop, C: Content> Dir<C> for 
     }
 
     fn act(&mut self, op: Op) -> Result<Reply, Memory> {
-        let reply = match self.folder.step(&op)? {
+        let made = self.folder.step(&op);
+        drop(op);
+        let reply = match made? {
             Ok(reply) => reply,
             Err(failure) => {
                 self.failure = Some(failure);

@@ -45,6 +45,7 @@ impl<A: Answer> Rows<A> {
     }
 
     /// Takes the next line, which has no line feed. A heading begins with `== `; what stands before the first is passed over.
+    /// A line `times`, a number and a text stands for so many of that text.
     pub fn read(&mut self, line: &[u8]) -> Result<(), Memory> {
         if line.starts_with(HEADING) {
             return self.head(line);
@@ -54,7 +55,18 @@ impl<A: Answer> Rows<A> {
             Stage::Under => self.stage = Stage::Within,
             Stage::Within => self.text.append(b"\n")?,
         }
-        self.text.append(line)
+        match line.strip_prefix(b"times ") {
+            None => self.text.append(line),
+            Some(many) => self.repeat(many),
+        }
+    }
+
+    fn repeat(&mut self, many: &[u8]) -> Result<(), Memory> {
+        let (count, text) = count_and_text(many);
+        for _ in 0..count {
+            self.text.append(text)?;
+        }
+        Ok(())
     }
 
     fn head(&mut self, line: &[u8]) -> Result<(), Memory> {
@@ -97,4 +109,18 @@ impl<A: Answer> Rows<A> {
         } = self;
         Ok(answers)
     }
+}
+
+// The number that digits spell, and what stands behind it, from a blank on.
+fn count_and_text(many: &[u8]) -> (u32, &[u8]) {
+    let mut count = 0_u32;
+    for (at, digit) in many.iter().enumerate() {
+        if *digit == b' ' {
+            return (count, &many[at..]);
+        }
+        count = count
+            .wrapping_mul(10)
+            .wrapping_add(u32::from(digit.wrapping_sub(b'0')));
+    }
+    (count, b"")
 }

@@ -150,7 +150,7 @@ fn bytes_are_added_to_and_copies_stay(rt: HostRuntime) -> Result<(), Fail> {
         for _ in 0..count {
             plain.push(b'a')?;
         }
-        let mut bytes = Bytes::from_vec(Vec::from_slice(alloc, plain.as_slice())?)?;
+        let mut bytes = Bytes::of(alloc, plain.as_slice())?;
         let before = bytes.copy()?;
         for piece in [
             b"b".as_slice(),

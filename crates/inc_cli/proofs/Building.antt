@@ -1,6 +1,7 @@
 -- A command is its words, its text and, for a build, its session.
 use Rattle.std.proofs.Common.{◌≡◌, inl, inr, ℕ, [], ◌∷◌, ◌++◌, Some, None, ap, ◌∙◌, subst, sym, arith}
 use Rattle.std.specs.Prelude.{Bool, Option, List, IfSome}
+use Rattle.inc_base.specs.declared.job.Compiler.{Compiler}
 use Rattle.inc_base.specs.declared.job.Job.{Job}
 use Rattle.inc_fs.specs.Paths.{Text}
 use Rattle.inc_fs.specs.State.{State}
@@ -11,7 +12,7 @@ use Rattle.inc_base.specs.Meters.{raised}
 use Rattle.inc_laws.specs.Invariants.{NamesOnce, HeldExclusively, FinalisedComplete, NewestStands}
 use Rattle.inc_words.specs.Words.{AsksFor}
 use Rattle.inc_words.specs.declared.words.Command.{Command}
-use Rattle.inc_words.specs.declared.words.Command.TheVariants.{Build}
+use Rattle.inc_words.specs.declared.words.Command.TheVariants.{Build, Clean}
 use Rattle.inc_proto.specs.declared.event.Event.{Event}
 use Rattle.inc_proto.specs.declared.event.Event.TheVariants.{Begin, Left}
 use Rattle.inc_proto.specs.Events.{Steps, did, latest, own_steps}
@@ -28,6 +29,8 @@ use Rattle.inc_session.specs.CompilingLaws.{built_clean, errors_clean}
 use Rattle.inc_session.specs.Ends.{HasBuilt, HasFailed as WithErrors}
 use Rattle.inc_session.specs.Saves.{IsLegalHere, saved_files}
 use Rattle.inc_session.specs.declared.outcome.Used.{Used}
+use Rattle.link_laws.specs.Told.{AreLines, Tells}
+use Rattle.rs_lines.specs.declared.line.Line.{Line}
 use Rattle.rs_queries.specs.Built.{IsClean}
 use Rattle.rs_queries.specs.declared.compiled.CleanBuild.{CleanBuild}
 use Rattle.rs_queries.specs.declared.reading.Reading.{Reading}
@@ -35,7 +38,7 @@ use Rattle.inc_cli.specs.declared.answer.Answer.{Answer}
 use Rattle.inc_cli.specs.declared.answer.Answer.TheVariants.{Built, Failed, Cleaned}
 use Rattle.inc_cli.specs.declared.status.Status.{Status}
 use Rattle.inc_cli.specs.declared.status.Status.TheVariants.{Done, Errors, BadWords, DirectoryFault, SinkFault, SourceFault, OutOfMemory, Lost, OverLimit, Disturbed}
-use Rattle.inc_cli.specs.Run.{FailsToWrite, Inputs, Outputs, session_of, AreTold, ComesTo, HasFailed, HasLeft, HasPublished, IsGone, IsSoFar, KeepsDir, Refuses, Visit}
+use Rattle.inc_cli.specs.Run.{FailsToWrite, Inputs, Outputs, session_of, AreTold, ComesTo, HasCleaned, HasFailed, HasLeft, HasPublished, IsCleanOf, IsGone, IsSoFar, KeepsDir, Refuses, Visit}
 use Rattle.inc_cli.specs.Parts.{IsText, FailsText, Visited, BuildsSo, FailsSo, HasSession, FailsSession}
 use Rattle.inc_cli.proofs.Leaving.{told_job, is_out, is_gone, has_left, named_in}
 
@@ -58,6 +61,25 @@ no_refusal handle closed asked reply before told is = λ refusal.
 all_told : (handle : ℕ) (closed : Reply) (before steps told : Steps) → steps ≡ (Close handle, closed) ∷ before → AreTold steps told → told ≡ steps
 all_told handle closed before steps told last (inl all) = all
 all_told handle closed before steps told last (inr (asked, reply, refusal, is)) = absurd (no_refusal handle closed asked reply before told (sym last ∙ is) refusal)
+
+-- a clean build tells the lines of its text, by the law that objects link
+clean_of : ((text : List ℕ) (level : ℕ) (build : CleanBuild) (lines : List Line) → IsClean text level build → AreLines text lines → Tells build lines)
+    → (text : List ℕ) (level : ℕ) (build : CleanBuild) → IsClean text level build → IsCleanOf text level build
+clean_of tells text level build is = record { is = is; tells = λ lines are. tells text level build lines is are }
+
+-- so a clean build of the source's text is what the command asks for
+pub has_cleaned : ((text : List ℕ) (level : ℕ) (build : CleanBuild) (lines : List Line) → IsClean text level build → AreLines text lines → Tells build lines)
+    → (words : List (List ℕ)) (compiler : Compiler) (text : List ℕ) (reading : Reading) (build : CleanBuild) (old new : Inputs) → AsksFor words (Clean compiler) → IsText text reading old.left new.left → KeepsDir old new
+    → IsClean text compiler.level build → HasCleaned words build old new
+has_cleaned tells words compiler text reading build old new asks is keeps clean = record {
+  compiler = compiler;
+  asks = asks;
+  text = text;
+  of_source = is.of_source;
+  clean = clean_of tells text compiler.level build clean;
+  read = is.read;
+  keeps = keeps;
+}
 
 none_emitted : (count : ℕ) → raised count 0 ≡ count
 none_emitted count = omega arith
@@ -84,7 +106,8 @@ module _ (words : List (List ℕ)) (job : Job) (reading : Reading) (old new : In
   module _ (names_once : (files : Files) (events : List Event) (F : State) → LeadsTo events F → AreAllowed files events → NamesOnce events F)
       (held_exclusively : (files : Files) (events : List Event) (F : State) → LeadsTo events F → AreAllowed files events → HeldExclusively events F)
       (finalised_complete : (files : Files) (events : List Event) (F : State) → LeadsTo events F → AreAllowed files events → FinalisedComplete files events F)
-      (newest_stands : (files : Files) (events : List Event) (F : State) → LeadsTo events F → AreAllowed files events → NewestStands events F) where
+      (newest_stands : (files : Files) (events : List Event) (F : State) → LeadsTo events F → AreAllowed files events → NewestStands events F)
+      (tells : (text : List ℕ) (level : ℕ) (build : CleanBuild) (lines : List Line) → IsClean text level build → AreLines text lines → Tells build lines) where
     module _ (diags image : Text) (used : Used) (note : Bool) (session : BuildsSo job diags image used note old.dir new.dir old.meter new.meter) where
       abbrev built : HasBuilt job diags image used note session.visit.steps
       built = session.visit.ends.cause
@@ -111,7 +134,7 @@ module _ (words : List (List ℕ)) (job : Job) (reading : Reading) (old new : In
       unfolding visit_of
       has_published = record {
         visit = visit_of _ session.visit;
-        clean = clean;
+        clean = clean_of tells _ _ _ clean;
         each = each;
         all = all;
         read = text.read;
@@ -140,7 +163,7 @@ module _ (words : List (List ℕ)) (job : Job) (reading : Reading) (old new : In
           record {
             visit = visit_of _ session.visit;
             units = clean.0;
-            clean = subst (λ diags. IsClean job.text job.compiler.level (record { diags = diags; image = None; units = clean.0 })) (sym failed.diags_are) clean.1;
+            clean = clean_of tells _ _ _ (subst (λ diags. IsClean job.text job.compiler.level (record { diags = diags; image = None; units = clean.0 })) (sym failed.diags_are) clean.1);
             all = all_of;
             read = text.read;
             meter = session.meter ∙ none_emitted old.meter;

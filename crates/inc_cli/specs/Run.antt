@@ -34,6 +34,8 @@ use Rattle.inc_wire.specs.Forms.{job_hash_of}
 use Rattle.inc_words.specs.Words.{AsksFor, AreRefused}
 use Rattle.inc_words.specs.declared.words.Command.{Command}
 use Rattle.inc_words.specs.declared.words.Command.TheVariants.{Build, Clean}
+use Rattle.link_laws.specs.Told.{AreLines, Tells}
+use Rattle.rs_lines.specs.declared.line.Line.{Line}
 use Rattle.rs_queries.specs.Built.{IsClean}
 use Rattle.rs_queries.specs.Limits.{over_limit}
 use Rattle.rs_queries.specs.declared.compiled.CleanBuild.{CleanBuild}
@@ -43,6 +45,11 @@ use Rattle.inc_cli.specs.declared.answer.Answer.TheVariants.{Built, Failed, Clea
 use Rattle.inc_cli.specs.declared.status.Status.{Status}
 use Rattle.inc_cli.specs.declared.status.Status.TheVariants.{Done, Errors, BadWords, DirectoryFault, SinkFault, SourceFault, OutOfMemory, Lost, OverLimit, Disturbed}
 use Rattle.inc_cli.specs.Statuses.{image_of, line_of, lines_of, status_with}
+
+-- It is the clean build of this text at this level. It prints the lines of the text, and has an image exactly where none of them is an error's.
+pub record IsCleanOf (text : List ℕ) (level : ℕ) (build : CleanBuild) : Type 0 where
+  pub is : IsClean text level build
+  pub tells : (lines : List Line) → AreLines text lines → Tells build lines
 
 -- The text that a source gave, where it told what it had left: all of that. It passes no limit.
 pub record IsTextOf (left : Option (List ℕ)) (text : List ℕ) : Type 0 where
@@ -148,7 +155,7 @@ IsGone job its steps F = removed_by steps ≡ Some WasDone → folder_at F job.k
 -- told history is legal, the published directory is as `HasLeft` says in each state that it leads to.
 pub record HasPublished (words : List (List ℕ)) (diags image : Text) (used : Used) (note : Bool) (old new : Inputs) : Type 0 where
   pub visit : Visit (HasBuiltThis diags image used note) words old.left old.dir new.dir
-  pub clean : IsClean visit.job.text visit.job.compiler.level (record { diags = diags; image = Some image; units = used.units })
+  pub clean : IsCleanOf visit.job.text visit.job.compiler.level (record { diags = diags; image = Some image; units = used.units })
   pub each : used.emitted ≡ used.units
   pub all : visit.visited.told_steps ≡ visit.steps
   pub read : IsReadOut old.left new.left
@@ -162,7 +169,7 @@ pub record HasPublished (words : List (List ℕ)) (diags image : Text) (used : U
 pub record HasFailed (words : List (List ℕ)) (diags : Text) (note : Bool) (old new : Inputs) : Type 0 where
   pub visit : Visit (HasFailedSo diags note) words old.left old.dir new.dir
   pub units : ℕ
-  pub clean : IsClean visit.job.text visit.job.compiler.level (record { diags = diags; image = None; units = units })
+  pub clean : IsCleanOf visit.job.text visit.job.compiler.level (record { diags = diags; image = None; units = units })
   pub all : visit.visited.told_steps ≡ visit.steps
   pub read : IsReadOut old.left new.left
   pub meter : new.meter ≡ old.meter
@@ -175,7 +182,7 @@ pub record HasCleaned (words : List (List ℕ)) (build : CleanBuild) (old new : 
   pub asks : AsksFor words (Clean compiler)
   pub text : List ℕ
   pub of_source : IsTextOf old.left text
-  pub clean : IsClean text compiler.level build
+  pub clean : IsCleanOf text compiler.level build
   pub read : IsReadOut old.left new.left
   pub keeps : KeepsDir old new
 

@@ -14,6 +14,7 @@ use inc_dir::Dir;
 use inc_laws::the_invariants_hold;
 use inc_session::{Outcome, Saved, Session, outcomes_have_causes};
 use inc_words::Command;
+use link_laws::objects_link;
 use rs_queries::Reading;
 use std::alloc::Global;
 
@@ -104,6 +105,7 @@ pub(crate) fn build<S: Source, D: Dir<Saved>>(
         (record { left = S.left src.new; source_faults = S.faults src.new; dir = record { told = D.told dir.new; own = D.own dir.new }; dir_faults = D.faults dir.new; meter = meter.new })) }
 {
     the_invariants_hold();
+    objects_link();
     match text_of(alloc, src) {
         Ok(Text { bytes, reading }) => {
             let job = Job {

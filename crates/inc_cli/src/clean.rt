@@ -7,6 +7,7 @@ use crate::source::{Text, text_of};
 use crate::status::Status;
 use inc_base::{Bytes, Compiler, Source};
 use inc_words::Command;
+use link_laws::objects_link;
 use rs_queries::clean_read;
 use std::alloc::Global;
 
@@ -23,6 +24,7 @@ pub(crate) fn clean<S: Source>(
         (record { left = S.left src.old; source_faults = S.faults src.old; dir = dir; dir_faults = faults; meter = meter })
         (record { left = S.left src.new; source_faults = S.faults src.new; dir = dir; dir_faults = faults; meter = meter })) }
 {
+    objects_link();
     match text_of(alloc, src) {
         Ok(Text { bytes, reading }) => {
             drop(bytes);

@@ -1,9 +1,8 @@
 -- What stands first among words.
-use Rattle.std.proofs.Common.{◌≡◌, ◌≢◌, inl, inr, ℕ, suc, ◌-◌, ◌≤◌, List, [], ◌∷◌, map, take, drop, length, get_or, codes, false, ◌==◌, sym, subst, ap, ◌∙◌, arith, Bor}
+use Rattle.std.proofs.Common.{◌≡◌, ◌≢◌, inl, inr, ℕ, suc, ◌-◌, ◌≤◌, List, [], ◌∷◌, map, take, drop, length, get_or, codes, false, ◌==◌, sym, ap, ◌∙◌, arith, Bor}
 use Rattle.std.proofs.Math.Seq.{take-length}
 use Rattle.inc_words.specs.Words.{AreRefused, IsClean, IsLevel, IsSpelled, IsValue}
 use Rattle.inc_words.specs.declared.words.Command.TheVariants.{Build, Clean}
-use Rattle.inc_base.specs.Texts.{IsName}
 
 -- where this word is first, the words are it and the others
 pub fronted : (words : List (Bor (List ℕ))) (d : Bor (List ℕ)) (first : List ℕ) → 1 ≤ length words → (get_or words 0 d).now ≡ first
@@ -44,18 +43,8 @@ pub build_rest : {words r0 r1 r2 r3 r4 rest : List (List ℕ)} {o p q s t k1 k2 
     → r2 ≡ s ∷ b1 ∷ r3 → r3 ≡ t ∷ c1 ∷ r4 → words ≡ o ∷ p ∷ k2 ∷ q ∷ a2 ∷ s ∷ b2 ∷ t ∷ c2 ∷ rest → rest ≡ r4
 build_rest e0 e1 e2 e3 e4 is = cc
 
-pub same_crate : {words rest rest2 : List (List ℕ)} {o p q s t k1 k2 a1 a2 b1 b2 c1 c2 : List ℕ} → words ≡ o ∷ p ∷ k1 ∷ q ∷ a1 ∷ s ∷ b1 ∷ t ∷ c1 ∷ rest
-    → words ≡ o ∷ p ∷ k2 ∷ q ∷ a2 ∷ s ∷ b2 ∷ t ∷ c2 ∷ rest2 → k1 ≡ k2
-same_crate one other = cc
-
--- Words that spell neither command are refused, and so are those of a build of what is no name.
+-- words that spell neither command are refused
 pub neither : (words : List (List ℕ)) → ((krate root src image : List ℕ) (level : ℕ) → IsSpelled words krate root src image level → ⊥)
     → ((src image : List ℕ) (level : ℕ) → IsClean words src image level → ⊥) → AreRefused words
 neither words build clean (Build krate compiler) places asks = build _ _ _ _ _ asks.build.words_are
 neither words build clean (Clean compiler) places asks = clean _ _ _ asks.clean
-
-pub nameless : (words : List (List ℕ)) (krate root src image : List ℕ) (level : ℕ) → IsSpelled words krate root src image level → ¬ IsName krate
-    → ((src image : List ℕ) (level : ℕ) → IsClean words src image level → ⊥) → AreRefused words
-nameless words krate root src image level is none clean (Build other compiler) places asks =
-    none (subst IsName (sym (same_crate is.spelled asks.build.words_are.spelled)) asks.build.name)
-nameless words krate root src image level is none clean (Clean compiler) places asks = clean _ _ _ asks.clean

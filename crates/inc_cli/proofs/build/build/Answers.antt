@@ -8,7 +8,7 @@ pub returns-in-Ok-clause-ok : goal.returns-in-Ok-clause-ok
 returns-in-Ok-clause-ok g c = λ words asks.
     let laws = c.the_invariants_hold.ensures in
     IfOk-weaker c.publish.result _ _
-    (λ answer session. comes_to words _ _ _ _ asks c.in-Ok.ensures.ok laws.names_once laws.held_exclusively laws.finalised_complete laws.newest_stands answer session)
+    (λ answer session. comes_to words _ _ _ _ asks c.in-Ok.ensures.ok laws.names_once laws.held_exclusively laws.finalised_complete laws.newest_stands c.objects_link.ensures.clean answer session)
     c.publish.ensures.ok
 
 pub returns-in-Ok-clause-err : goal.returns-in-Ok-clause-err

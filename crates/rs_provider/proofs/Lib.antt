@@ -1,4 +1,5 @@
 mod Follows
+mod Keeping
 mod Named
 mod News
 mod Readings

@@ -4,6 +4,7 @@ ghost use Rattle.std.specs.Prelude.{◌≡◌, IfOk};
 ghost use Rattle.rs_provider.specs.Rests.{after, rest};
 ghost use Rattle.rs_provider.specs.declared.state.State.TheVariants as state;
 
+use crate::desk::Desk;
 use crate::object::members_fed;
 use crate::sig::sig_fed;
 use crate::state::State;
@@ -14,17 +15,17 @@ use rs_tree::Place;
 
 impl State {
     /// Where it stands after the value that it waits for. One that is done stays.
-    pub(crate) fn fed(self, value: &Bytes) -> Result<State, Memory>
+    pub(crate) fn fed(self, desk: &Desk, value: &Bytes) -> Result<State, Memory>
         ensures { IfOk result (λ s. rest s ≡ after (rest self) value.now) }
     {
         match self {
             State::Done(given) => Ok(State::Done(given)),
-            State::Index => Ok(State::Done(index_value(value)?)),
-            State::Item(at) => item_fed(at, value),
+            State::Index => Ok(State::Done(index_value(desk, value)?)),
+            State::Item(at) => item_fed(desk, at, value),
             State::Sig(at) => sig_fed(at, value),
             State::Subject(at, aim) => subject_fed(at, aim, value),
-            State::Resolve(subject) => subject.fed(value),
-            State::Search(search) => search.fed(value),
+            State::Resolve(subject) => subject.fed(desk, value),
+            State::Search(search) => search.fed(desk, value),
             State::Calls(calling) => calling.fed(value),
             State::Const(settling) => settling.fed(value),
             State::Check(checking) => checking.fed(value),
@@ -36,10 +37,10 @@ impl State {
     }
 }
 
-fn item_fed(at: Place, value: &Bytes) -> Result<State, Memory>
+fn item_fed(desk: &Desk, at: Place, value: &Bytes) -> Result<State, Memory>
     ensures { IfOk result (λ s. rest s ≡ after (rest (state.Item at)) value.now) }
 {
-    let item = item_value(&at, value);
+    let item = item_value(desk, &at, value);
     drop(at);
     Ok(State::Done(item?))
 }

@@ -10,8 +10,9 @@ ghost use Rattle.std.specs.declared.rc.Rc.{Rc};
 ghost use Rattle.std.specs.declared.alloc.Global.{Global};
 ghost use Rattle.rs_provider.specs.Shared.{shared};
 
+use crate::kept::ReadIndex;
 use crate::names::{are_places, has_labels, is_index};
-use inc_base::{Bytes, List, Memory};
+use inc_base::{Bytes, Copied, List, Memory};
 use rs_answers::{read_const, read_places};
 use rs_forms::{read_index, read_ir, read_item, read_sig};
 use rs_grammar::are_lexed;
@@ -40,15 +41,17 @@ pub(crate) fn share<T: Drop>(alloc: Global, value: T) -> Result<Rc<T>, Memory>
 }
 
 /// The index that these bytes are, with names that are those of queries.
-pub(crate) fn index_in(value: &Bytes) -> Result<Option<Rc<Index>>, Memory>
-    ensures { IfOk result (λ o. option_map shared o ≡ index_in value.now) }
+pub(crate) fn index_read(value: &Bytes) -> Result<Option<ReadIndex>, Memory>
+    ensures { IfOk result (λ o. option_map (λ r. r.index.value) o ≡ index_in value.now) }
 {
     let alloc = value.allocator();
     match read_index(alloc, value.as_slice())? {
         None => Ok(None),
         Some(index) => {
             if is_index(&index) {
-                Ok(Some(share(alloc, index)?))
+                let index = share(alloc, index)?;
+                let bytes = value.copy()?;
+                Ok(Some(ReadIndex { bytes, index }))
             } else {
                 drop(index);
                 Ok(None)

@@ -6,8 +6,9 @@ ghost use Rattle.rs_plans.specs.Plans.{wanted_from_main};
 ghost use Rattle.rs_provider.specs.Rests.{after, found_by, next_by, rest, searching, wanted_by};
 ghost use Rattle.rs_provider.specs.declared.state.State.TheVariants as state;
 
+use crate::desk::Desk;
 use crate::from_main::wanted_from_main;
-use crate::reading::{index_in, places_in};
+use crate::reading::places_in;
 use crate::state::{Calling, Search, State};
 use inc_base::{Bytes, Copied, List, Memory};
 use rs_answers::places_bytes;
@@ -18,10 +19,10 @@ use std::rc::Rc;
 
 impl Search {
     /// With the index that a value is.
-    pub(crate) fn fed(self, value: &Bytes) -> Result<State, Memory>
+    pub(crate) fn fed(self, desk: &Desk, value: &Bytes) -> Result<State, Memory>
         ensures { IfOk result (λ s. rest s ≡ after (rest (state.Search self)) value.now) }
     {
-        match index_in(value) {
+        match desk.index(value) {
             Err(refused) => {
                 drop(self);
                 Err(refused)

@@ -9,8 +9,9 @@ ghost use Rattle.rs_provider.specs.declared.state.State.TheVariants as state;
 
 use crate::check::check_of;
 use crate::constants::const_of;
+use crate::desk::Desk;
 use crate::form::form_of;
-use crate::reading::{index_in, item_in};
+use crate::reading::item_in;
 use crate::sig::is_constant;
 use crate::state::{Aim, Resolved, State, Subject};
 use inc_base::{Bytes, List, Memory};
@@ -62,10 +63,10 @@ fn is_made(aim: Aim, constant: bool) -> bool
 
 impl Subject {
     /// What is made of it, with the index that a value is.
-    pub(crate) fn fed(self, value: &Bytes) -> Result<State, Memory>
+    pub(crate) fn fed(self, desk: &Desk, value: &Bytes) -> Result<State, Memory>
         ensures { IfOk result (λ s. rest s ≡ after (rest (state.Resolve self)) value.now) }
     {
-        match index_in(value) {
+        match desk.index(value) {
             Err(refused) => {
                 drop(self);
                 Err(refused)

@@ -7,21 +7,21 @@ ghost use Rattle.rs_plans.specs.Plans.{fault_at, index_by, index_fault, item_in_
 ghost use Rattle.rs_queries.specs.Reading.{what_was_read};
 ghost use Rattle.rs_text.specs.Text.{text_of};
 
+use crate::desk::Desk;
 use inc_base::{Bytes, Copied, Memory};
 use rs_forms::{fault_bytes, index_bytes, item_bytes};
 use rs_names::index;
-use rs_queries::{Reading, read};
+use rs_queries::Reading;
 use rs_text::TextFault;
 use rs_tree::{At, IndexFault, Item, Place, Placed};
 use std::alloc::Global;
 
 /// The index of a text, or its fault.
-pub(crate) fn index_value(text: &Bytes) -> Result<Bytes, Memory>
+pub(crate) fn index_value(desk: &Desk, text: &Bytes) -> Result<Bytes, Memory>
     ensures { IfOk result (λ v. v ≡ index_by (text_of text.now)) }
 {
-    let alloc = text.allocator();
-    let reading = read(alloc, text.as_slice())?;
-    index_read(alloc, &reading)
+    let read = desk.text(text)?;
+    index_read(text.allocator(), &read.as_ref().reading)
 }
 
 fn index_read(alloc: Global, reading: &Reading) -> Result<Bytes, Memory>
@@ -70,12 +70,11 @@ fn fault_of(alloc: Global, at: At, code: rs_tree::TextFault) -> IndexFault
 }
 
 /// The item at a place of a text, and nothing where there is none.
-pub(crate) fn item_value(at: &Place, text: &Bytes) -> Result<Bytes, Memory>
+pub(crate) fn item_value(desk: &Desk, at: &Place, text: &Bytes) -> Result<Bytes, Memory>
     ensures { IfOk result (λ v. v ≡ item_value (place_name at.now) (text_of text.now)) }
 {
-    let alloc = text.allocator();
-    let reading = read(alloc, text.as_slice())?;
-    item_found(alloc, at, &reading)
+    let read = desk.text(text)?;
+    item_found(text.allocator(), at, &read.as_ref().reading)
 }
 
 fn item_found(alloc: Global, at: &Place, reading: &Reading) -> Result<Bytes, Memory>

@@ -1,12 +1,9 @@
 -- What a call leaves of the queries that were asked.
-use Rattle.std.proofs.Common.{◌≡◌, ℕ, ◌<◌, List, length, map, sym, ◌∙◌, ap, subst, get_or, drop}
-use Rattle.std.specs.Prelude.{IsTrue}
-use Rattle.std.specs.List.{All, AllByRecursion, Contains, count_by}
+use Rattle.std.proofs.Common.{◌≡◌, ℕ, ◌<◌, List, length, map, subst, get_or}
+use Rattle.std.specs.List.{All, AllByRecursion, Contains}
 use Rattle.std.proofs.lemmas.List.Elements.{All-map, All-from_recursion, Contains-get_or}
-use Rattle.std.proofs.Math.Seq.{drop-append_seam}
-use Rattle.inc_query.specs.Ticks.{rise}
 use Rattle.inc_query.specs.declared.query.Query.{Query}
-use Rattle.inc_engine.specs.Builds.{at, Setup, reads_in, Before, Asks, stale}
+use Rattle.inc_engine.specs.Builds.{at, Setup, reads_in, Before, Asks}
 use Rattle.inc_engine.specs.Marking.{asked, Sound, Grew}
 use Rattle.inc_engine.specs.declared.done.Done.{Done}
 use Rattle.inc_engine.proofs.Lists.{all-weaker, all-mapped}
@@ -20,8 +17,3 @@ closed {b} {memo} {s} sound before = All-map (λ r. All (Contains (asked memo)) 
 
 pub asks-grew : {b : Setup} {q : Query} {old new : List Done} {top from to : ℕ} → Grew b q old new top from to → Sound b new → Contains (asked new) q → Asks b q (asked old) (asked new)
 asks-grew grew sound it = record { more = grew.more; are = grew.asked_are; it = it; reached = grew.reached; closed = λ s before. closed sound before }
-
-pub rise-grew : {b : Setup} {root : Query} {old new : List Done} {top from to : ℕ} → Grew b root old new top from to → (s : List ℕ) → Before b s → IsTrue (b.kept b.ticking) → to ≡ rise from (count_by (stale b s) (drop (length (asked old)) (asked new)))
-rise-grew {b} {root} {old} {new} {top} {from} {to} grew s before kept =
-    let more : drop (length (asked old)) (asked new) ≡ grew.more = ap (drop (length (asked old))) grew.asked_are ∙ drop-append_seam (asked old) grew.more in
-    grew.ticked s before kept ∙ ap (λ xs. rise from (count_by (stale b s) xs)) (sym more)

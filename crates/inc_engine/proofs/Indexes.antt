@@ -75,13 +75,6 @@ indexed-push {index} {new} {memo} d h updates fresh = record {
     all i x l (inl same) = at_end i x same (last i (length memo) (omega (arith, long)))
     all i x l (inr other) = before i x other (last i (length memo) (omega (arith, long)))
 
--- another value in the place of an entry: the queries stay where they are
-pub indexed-set : {index : BTreeMap Query ℕ} {memo new : List Done} → Indexed index memo → length new ≡ length memo → ((k : ℕ) (d : Done) → k < length memo → (get_or new k d).query ≡ (get_or memo k d).query) → Indexed index new
-indexed-set {index} {memo} {new} h long same = record {
-  found = λ q i e. (let was = h.found q i e in (omega (arith, was.0, long), λ d. same i d was.0 ∙ was.1 d));
-  all = λ i d l. ap (get query_cmp index) (same i d (omega (arith, long))) ∙ h.all i d (omega (arith, long));
-}
-
 -- what `enter` leaves where there is room
 pub entered : {index new : BTreeMap Query ℕ} {items : List Done} (memo : List Done) (d : Done) (key : Query) (place : ℕ) → Indexed index memo → key ≡ d.query → place ≡ length memo → place < 4294967295 → Updates query_cmp index new key (Some place) → All (λ (x : Done). x.query ≢ d.query) memo → items ≡ memo ++ d ∷ [] → (length items < 4294967296) × Indexed new items
 entered {index} {new} {items} memo d key place h e f room updates fresh g =

@@ -51,12 +51,6 @@ lower-kind nodes kind i n h e =
 node_at : (nodes : List Node) → IsGraph nodes → (i : ℕ) (n : Node) → i < length nodes → n ≡ get_or nodes i n → IsNode nodes n
 node_at nodes graph i n l e = subst (IsNode nodes) (sym e) (graph.each i n l)
 
--- the reads of a node lie in the graph
-pub read-within : (nodes : List Node) → IsGraph nodes → (place : ℕ) (node : Node) (items : List ℕ) (j : ℕ) → place < length nodes → node ≡ get_or nodes place node → items ≡ node.reads → j < length items → get_or items j 0 < length nodes
-read-within nodes graph place node items j l e same m =
-    let all = subst (λ xs. All (IsLower nodes node.query.kind) xs) (sym same) (node_at nodes graph place node l e).lower in
-    lower-within nodes node.query.kind (get_or items j 0) (all j 0 m)
-
 pub is_read : (nodes : List Node) → IsGraph nodes → (place : ℕ) (node : Node) (items : List ℕ) (j : ℕ) (n : Node) → place < length nodes → node ≡ get_or nodes place node → items ≡ node.reads → j < length items → n ≡ get_or nodes (get_or items j 0) n → IsReadOf nodes place items j n
 is_read nodes graph place node items j n l e same m f =
     let all = subst (λ xs. All (IsLower nodes node.query.kind) xs) (sym same) (node_at nodes graph place node l e).lower in
@@ -116,9 +110,6 @@ told-more {b} {nodes} {place} {items} {j} {n} {root} {old} {new} {places} {k} {t
     ∙ ap (λ rs. rs ++ at (asked new) i ∷ []) (mapped-grew visited grew ∙ told)
     ∙ ap (λ q. map (at (queries_of nodes)) (take j items) ++ q ∷ []) (at-is new i n.query d there)
     ∙ sym (taken-more read m)
-
-pub told-grew : {b : Setup} {root : Query} {old new : List Done} {places : List ℕ} {rs : List Query} {k top from to : ℕ} → Visited (asked old) k places → Grew b root old new top from to → map (at (asked old)) places ≡ rs → map (at (asked new)) places ≡ rs
-told-grew visited grew told = mapped-grew visited grew ∙ told
 
 pub told-all : (nodes : List Node) (items : List ℕ) {j : ℕ} {rs : List Query} → length items ≤ j → rs ≡ map (at (queries_of nodes)) (take j items) → rs ≡ map (at (queries_of nodes)) items
 told-all nodes items {j} {rs} l told = told ∙ ap (map (at (queries_of nodes))) (take_all j items l)
@@ -384,18 +375,6 @@ grew-push {b} {q} {old} {mid} {new} {from} {to} d settled e = record {
       let one : cond (stale b s q) 1 0 ≡ count_by (stale b s) (q ∷ []) = omega arith in
       it ∙ ap (λ k. rise k (cond (stale b s q) 1 0)) before_it ∙ rise-rise from _ _ ∙ ap (λ n. rise from (count_by (stale b s) settled.grew.more + n)) one ∙ ap (rise from) (sym sum);
 }
-
--- the new entry's position
-pub at-push : (mid new : List Done) (q : Query) (d : Done) (i : ℕ) → new ≡ mid ++ d ∷ [] → i ≡ length mid → d.query ≡ q → IsAt new i q
-at-push mid new q d i e f query =
-    let P : List Done → Type 0 = λ m. (k : ℕ) → k ≡ length mid → IsAt m k q in
-    subst P (sym e) (λ k g. (omega (arith, g, length-append mid (d ∷ [])), λ x. at_end mid k x g ∙ query)) i f
-  where
-    at_end : (xs : List Done) (k : ℕ) (x : Done) → k ≡ length xs → (get_or (xs ++ d ∷ []) k x).query ≡ d.query
-    at_end [] zero x g = refl
-    at_end [] (suc k) x g = absurd (omega arith)
-    at_end (y ∷ ys) zero x g = absurd (omega arith)
-    at_end (y ∷ ys) (suc k) x g = at_end ys k x (omega arith)
 
 -- where a query is after a rerun
 pub at-rerun : {b : Setup} {q : Query} {mid late new : List Done} {between to : ℕ} {r : Ran} (i : ℕ) (d x : Done) → IsAt mid i q → DidRun b q mid late between to r → new ≡ slice_set late i x → x.query ≡ (get_or late i d).query → IsAt new i q

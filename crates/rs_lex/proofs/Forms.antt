@@ -149,6 +149,33 @@ mark_is_short : (text : List ℕ) → is_mark text ≡ true → length text ≤ 
 unfolding is_short
 mark_is_short text is = let short : nat_le (length text) 4 ≡ true = mark_passes is_short text signs_are_short refused_are_short is in grind (arith, nat_tests)
 
+-- where a word begins, no mark does
+
+begins_no_word : List ℕ → Bool
+begins_no_word text = not (begins is_word_byte text)
+
+signs_begin_no_word : list_all begins_no_word (keys_of signs) ≡ true
+unfolding begins_no_word signs
+signs_begin_no_word = refl
+
+refused_begin_no_word : list_all begins_no_word refused ≡ true
+unfolding begins_no_word refused
+refused_begin_no_word = refl
+
+unmarked : (b : ℕ) (text : List ℕ) (word : Bool) → is_word_byte b ≡ word → 0 < prefix_len is_word_byte (b ∷ text) → (n : ℕ) → (0 < n → is_mark (take n (b ∷ text)) ≡ true) → n ≡ 0
+unfolding begins_no_word
+unmarked b text false e some n passes = absurd (let none : prefix_len is_word_byte (b ∷ text) ≡ 0 = rw e refl in omega (arith, some, none))
+unmarked b text true e some zero passes = refl
+unmarked b text true e some (suc n) passes =
+    let no : not (is_word_byte b) ≡ true = mark_passes begins_no_word (take (suc n) (b ∷ text)) signs_begin_no_word refused_begin_no_word (passes (omega arith)) in
+    absurd (let is : not true ≡ true = sym (ap not e) ∙ no in cc)
+
+pub word_or_mark : (rest : List ℕ) → 0 < prefix_len is_word_byte rest → form_length rest ≡ prefix_len is_word_byte rest
+word_or_mark [] some = absurd (omega (arith, some))
+word_or_mark (b ∷ text) some =
+    let none = unmarked b text _ refl some (longest_front is_mark 4 (b ∷ text)) (longest_front-found is_mark 4 (b ∷ text)).passes in
+    ap (max (prefix_len is_word_byte (b ∷ text))) none ∙ omega arith
+
 -- a token's bytes are bytes
 
 signs_are_bytes : list_all (list_all is_byte) (keys_of signs) ≡ true

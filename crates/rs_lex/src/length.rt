@@ -68,7 +68,10 @@ pub fn form_length(rest: &[u8]) -> usize
     ensures value { result ≡ form_length rest.now }
     ensures within { result ≤ length rest.now }
 {
-    word_length(rest).max(mark_length(rest))
+    match word_length(rest) {
+        0 => mark_length(rest),
+        length => length,
+    }
 }
 
 fn is_doc(text: &[u8]) -> bool

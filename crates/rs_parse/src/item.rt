@@ -10,7 +10,9 @@ ghost use Rattle.rs_reader.specs.Reading.{Reading, ReadingAs};
 use crate::body::braced;
 use crate::expression::expression;
 use inc_base::{List, Memory};
-use rs_reader::{Fault, Lexeme, Tokens, optional_gives, optional_token, parameters, type_name};
+use rs_reader::{
+    Fault, Lexeme, Tokens, fitted, optional_gives, optional_token, parameters, type_name,
+};
 use rs_tree::{Body, Expr, Item, Kind, Param, Stmt, Typ};
 use sqlite_items::Items;
 use std::alloc::Global;
@@ -74,6 +76,7 @@ fn function_of(
         (λ i. (word : Lexeme) → i ≡ made Function (marker, (public.now, (word, (name.now, (params, (gives, inner))))))) }
 {
     let (stmts, tail) = inner;
+    let stmts = fitted(alloc, stmts)?;
     Ok(Item {
         public: public.is_some(),
         name: name.text()?,

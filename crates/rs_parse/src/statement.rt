@@ -11,7 +11,7 @@ ghost use Rattle.rs_reader.specs.Reading.{Reading, ReadingAs};
 use crate::expression::expression;
 use crate::optional::optional_expression;
 use inc_base::Memory;
-use rs_reader::{Fault, Lexeme, Tokens, effect, optional_token, optional_typing};
+use rs_reader::{Fault, Lexeme, Tokens, all_of, effect, fitted, optional_token, optional_typing};
 use rs_tree::{Expr, Kind, Stmt, Typ};
 use sqlite_items::Items;
 use std::alloc::{AllocError, Global};
@@ -153,7 +153,7 @@ fn block(alloc: Global, tokens: &mut Tokens<'_>) -> Result<Items<Stmt>, Fault>
     tokens.expect(Kind::LeftBrace)?;
     let found = statements(alloc, tokens)?;
     tokens.expect(Kind::RightBrace)?;
-    Ok(found)
+    Ok(fitted(alloc, found)?)
 }
 
 #[cycle(statement)]
@@ -199,9 +199,7 @@ fn chosen(alloc: Global, first: (Expr, Items<Stmt>), others: Others) -> Result<S
     ensures { IfOk result (λ s. s ≡ made Choice (first, others)) }
 {
     let (more, other) = others;
-    let mut arms = Items::new(alloc);
-    arms.push(first)?;
-    arms.append(more)?;
+    let arms = all_of(alloc, first, more)?;
     Ok(Stmt::If { arms, other })
 }
 

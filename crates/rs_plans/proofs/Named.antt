@@ -30,7 +30,7 @@ name_or_none_is text e = by (bytes_eq text []) refl e
 not_crate : (text : List ℕ) → not (bytes_eq text (codes "crate")) ≡ true → text ≢ codes "crate"
 not_crate text e same = (let is : bytes_eq text (codes "crate") ≡ true = (bytes_eq-Decides text (codes "crate")).1 same in let bad : false ≡ true = sym (ap not is) ∙ e in absurd (cc))
 
-module_is : (text : List ℕ) → is_module text ≡ true → IsModule text
+pub module_is : (text : List ℕ) → is_module text ≡ true → IsModule text
 module_is text e =
     (name_or_none_is text (left_of (is_name_or_none text) (not (bytes_eq text (codes "crate"))) e), not_crate text (right_of (is_name_or_none text) (not (bytes_eq text (codes "crate"))) e))
 

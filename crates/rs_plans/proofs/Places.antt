@@ -102,7 +102,7 @@ mutual
       all_more IsGood (map (look locals) (leaves cond)) (stas_answers look body locals ++ arms_answers look more locals) (each_good (look locals) (good locals) (leaves cond))
       (all_more IsGood (stas_answers look body locals) (arms_answers look more locals) (stas_good look good body locals) (arms_good look good more locals))
 
-answers_good : (look : Locals → path.Path → Found) → Looks look → (d : Definition path.Path) → AllByRecursion IsGood (definition_answers look d)
+pub answers_good : (look : Locals → path.Path → Found) → Looks look → (d : Definition path.Path) → AllByRecursion IsGood (definition_answers look d)
 answers_good look good (Const typ value) = each_good (look []) (good []) (leaves value)
 answers_good look good (Func inlined params gives stmts tail) =
     all_more IsGood (stas_answers look stmts (with_params params [])) (map (look (after_all stmts (with_params params []))) (leaves_in tail)) (stas_good look good stmts (with_params params []))

@@ -17,13 +17,13 @@ use Rattle.rs_const.specs.Constants.{Entry, AreValues, IsInCycle, IsValue, named
 
 -- ---- One value at most.
 
-bools : (a b : Bool) → ¬ (¬ (k.Bool a ≡ k.Bool b)) → k.Bool a ≡ k.Bool b
+pub bools : (a b : Bool) → ¬ (¬ (k.Bool a ≡ k.Bool b)) → k.Bool a ≡ k.Bool b
 bools true true h = refl
 bools true false h = absurd (h (λ e. cc))
 bools false true h = absurd (h (λ e. cc))
 bools false false h = refl
 
-stable : (a b : Const) → ¬ (¬ (a ≡ b)) → a ≡ b
+pub stable : (a b : Const) → ¬ (¬ (a ≡ b)) → a ≡ b
 stable (k.Int m) (k.Int n) h = by (int_eq m n) refl
   where
     by : (r : Bool) → int_eq m n ≡ r → k.Int m ≡ k.Int n
@@ -70,7 +70,7 @@ any_in p [] a h e = absurd (omega (arith, h.1))
 any_in p (x ∷ xs) a (zero, l, is) e = ap (λ b. b || list_any p xs) (ap p is ∙ e)
 any_in p (x ∷ xs) a (suc n, l, is) e = or_true (p x) (list_any p xs) (any_in p xs a (n, omega (arith, l), is) e)
 
-marked : (xs : List Entry) (i : ℕ) → i < length xs → slice_index_or (all_true xs) i false ≡ true
+pub marked : (xs : List Entry) (i : ℕ) → i < length xs → slice_index_or (all_true xs) i false ≡ true
 marked [] i l = absurd (omega (arith, l))
 marked (x ∷ xs) zero l = refl
 marked (x ∷ xs) (suc i) l = marked xs i (omega (arith, l))

@@ -30,4 +30,5 @@ pub use compiling::{compile, compile_read};
 pub use diagnosis::diagnose;
 pub use laws::{texts_have_one_build, texts_have_one_diagnosis};
 pub use limit::{Limit, over_limit, read_within};
+pub use own::tell_main;
 pub use reading::{Reading, read};

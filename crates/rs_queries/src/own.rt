@@ -31,7 +31,12 @@ pub(crate) fn own_lines<'a>(
     Ok(lines)
 }
 
-fn tell_main<'a>(alloc: Global, lines: &mut Lines, names: &Names<'a>) -> Result<(), Memory>
+/// Adds the line of a text whose root has no function `main` (docs/LANGUAGE.md, "Diagnostics"), or none.
+///
+/// # Errors
+///
+/// [`Memory`] if there is none for the line; the lines may lack it then.
+pub fn tell_main<'a>(alloc: Global, lines: &mut Lines, names: &Names<'a>) -> Result<(), Memory>
     ensures { OnOk result (lines.new ≡ fold note lines.old (main_lines names.now)) }
 {
     if has_main(names) {

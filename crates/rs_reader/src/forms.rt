@@ -13,11 +13,26 @@ use rs_tree::{ArithOp, At, CmpOp, Expr, Form, Path, UnaryOp};
 use sqlite_items::{Boxed, Items};
 use std::alloc::{AllocError, Global};
 
+/// A list of more elements stays as it grew: it has at most as much room again.
+const FEW: usize = 8;
+
+/// The same list. A short one has no room for more than it has.
+pub fn fitted<T: Drop>(alloc: Global, list: Items<T>) -> Result<Items<T>, AllocError>
+    ensures { IfOk result (λ it. it ≡ list) }
+{
+    if list.is_empty() || list.len() > FEW {
+        return Ok(list);
+    }
+    let mut all = Items::from_vec(Vec::with_capacity(alloc, list.len())?);
+    all.append(list)?;
+    Ok(all)
+}
+
 /// All of them, the first before the others.
-pub fn all_of(alloc: Global, first: Expr, more: Items<Expr>) -> Result<Items<Expr>, AllocError>
+pub fn all_of<T: Drop>(alloc: Global, first: T, more: Items<T>) -> Result<Items<T>, AllocError>
     ensures { IfOk result (λ all. all ≡ first ∷ more) }
 {
-    let mut all = Items::new(alloc);
+    let mut all = Items::from_vec(Vec::with_capacity(alloc, more.len().saturating_add(1))?);
     all.push(first)?;
     all.append(more)?;
     Ok(all)
@@ -60,6 +75,7 @@ pub fn arith_of(
     if more.is_empty() {
         return Ok(first);
     }
+    let more = fitted(alloc, more)?;
     Ok(Expr {
         at: first.at,
         form: Form::Arith(Boxed::new(alloc, first)?, more),

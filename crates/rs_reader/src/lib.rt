@@ -21,7 +21,7 @@ mod typing;
 pub use end::{effect, finish};
 pub use fault::Fault;
 pub use forms::{
-    all_of, and_of, arith_of, call_of, compared, grouped, or_none, or_of, path_of, signed,
+    all_of, and_of, arith_of, call_of, compared, fitted, grouped, or_none, or_of, path_of, signed,
 };
 pub use lexeme::{Lexeme, kinds_of};
 pub use nesting::{DEEPEST, first_too_deep};

@@ -8,7 +8,7 @@ ghost use Rattle.rs_grammar.specs.Sets.{are_next, first, next_in, next_pair};
 
 use crate::fault::Fault;
 use crate::lexeme::{Lexeme, relative};
-use inc_base::{Copied, List, Memory};
+use inc_base::{Copied, List, MOST, Memory};
 use rs_tree::{At, Kind, Token};
 use std::alloc::Global;
 use std::marker::Model;
@@ -409,11 +409,14 @@ impl<'a> Whole<'a> {
 fn copies_of(alloc: Global, tokens: &[Token], base: At) -> Result<List<Token>, Memory>
     ensures { IfOk result (λ copies. copies ≡ map (λ t. token (moved base (lexeme t))) tokens.now) }
 {
-    let mut copies = List::new(alloc);
+    if tokens.len() > MOST {
+        return Err(Memory);
+    }
+    let mut copies = Vec::with_capacity(alloc, tokens.len())?;
     for from in tokens {
         copies.push(moved_token(from, base)?)?;
     }
-    Ok(copies)
+    Ok(List::from_vec(copies))
 }
 
 fn first_name(tokens: &[Token], kinds: &[Kind]) -> At

@@ -66,7 +66,7 @@ pub block-returns-in_err-expect-2 : goal.block-returns-in_err-expect-2
 block-returns-in_err-expect-2 t c = passes c.from_residual-in_err-expect-2.result c.from_residual-in_err-expect-2.ensures.1 c.in_err-expect-2.ensures (λ r. r-no_nt {n = Block} (r-second c.in_ok-expect.ensures.is (r-second c.in_ok-found.ensures.is r)))
 
 pub block-returns : goal.block-returns
-block-returns t c = read (r-nt {n = Block} {x = (c.in_ok-expect.field-0, (c.in_ok-found.found, c.in_ok-expect-2.field-0))} (r-seq c.in_ok-expect.ensures.is (r-seq c.in_ok-found.ensures.is c.in_ok-expect-2.ensures.is)))
+block-returns t c = read_as c.in_ok-fitted.ensures (r-nt {n = Block} {x = (c.in_ok-expect.field-0, (c.in_ok-found.found, c.in_ok-expect-2.field-0))} (r-seq c.in_ok-expect.ensures.is (r-seq c.in_ok-found.ensures.is c.in_ok-expect-2.ensures.is)))
 
 pub repeated-returns-in_err-expect : goal.repeated-returns-in_err-expect
 repeated-returns-in_err-expect t c = passes c.from_residual.result c.from_residual.ensures.1 c.in_err-expect.ensures (λ r. r-no_nt {n = Loop} (r-first r))

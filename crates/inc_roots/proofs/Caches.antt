@@ -1,6 +1,6 @@
 -- The values kept of a graph of queries that were asked from roots are those of these roots.
-use Rattle.std.proofs.Common.{◌≡◌, ℕ, ◌+◌, zero, suc, ◌<◌, ◌≤◌, inl, inr, Bool, true, false, List, [], ◌∷◌, map, length, refl, sym, ◌∙◌, ap, subst, arith, if◌then◌else◌}
-use Rattle.std.specs.Prelude.{IsTrue, filter, slice_index_or}
+use Rattle.std.proofs.Common.{◌≡◌, ℕ, ◌+◌, zero, suc, ◌<◌, ◌≤◌, inl, inr, Bool, List, [], ◌∷◌, map, length, refl, ◌∙◌, ap, subst, arith}
+use Rattle.std.specs.Prelude.{IsTrue, slice_index_or}
 use Rattle.std.specs.Cmp.{nat_cmp_total, ranks}
 use Rattle.std.specs.List.{All, AllByRecursion, range_with_len}
 use Rattle.std.specs.List.Sorted.{IsStrictlySortedBy}
@@ -20,7 +20,7 @@ use Rattle.inc_engine.specs.Finish.{HasKept}
 use Rattle.inc_roots.specs.Asked.{AreAsked}
 use Rattle.inc_roots.specs.Rooted.{cache_of, kept_places, value_at, values_of}
 use Rattle.inc_roots.proofs.Graphs.{queries_are}
-use Rattle.inc_roots.proofs.Members.{IsIn, in_from}
+use Rattle.inc_roots.proofs.Members.{IsIn, in_from, passes_from, passes_in}
 use Rattle.inc_roots.proofs.Sorted.{one_list}
 
 -- ---- Numbers from a place on.
@@ -53,27 +53,6 @@ range_from : (a n j : ℕ) → IsIn (range_with_len a n) j → j < a + n
 range_from a zero j h = absurd h
 range_from a (suc n) j (inl e) = omega (arith, e)
 range_from a (suc n) j (inr h) = (let l = range_from (a + 1) n j h in omega (arith, l))
-
--- ---- Elements that pass.
-
-passes_in : (p : ℕ → Bool) (xs : List ℕ) (x : ℕ) → IsIn xs x → p x ≡ true → IsIn (filter p xs) x
-passes_in p [] x h e = absurd h
-passes_in p (y ∷ ys) x h e = go (p y) refl h (λ k. passes_in p ys x k e)
-  where
-    go : (b : Bool) → p y ≡ b → IsIn (y ∷ ys) x → (IsIn ys x → IsIn (filter p ys) x) → IsIn (if b then y ∷ filter p ys else filter p ys) x
-    go true s (inl same) f = inl same
-    go true s (inr k) f = inr (f k)
-    go false s (inl same) f = absurd (let bad : true ≡ false = sym e ∙ ap p (sym same) ∙ s in cc)
-    go false s (inr k) f = f k
-
-passes_from : (p : ℕ → Bool) (xs : List ℕ) (x : ℕ) → IsIn (filter p xs) x → IsIn xs x × (p x ≡ true)
-passes_from p [] x h = absurd h
-passes_from p (y ∷ ys) x h = go (p y) refl h (λ k. passes_from p ys x k)
-  where
-    go : (b : Bool) → p y ≡ b → IsIn (if b then y ∷ filter p ys else filter p ys) x → (IsIn (filter p ys) x → IsIn ys x × (p x ≡ true)) → IsIn (y ∷ ys) x × (p x ≡ true)
-    go true s (inl same) f = (inl same, ap p (sym same) ∙ s)
-    go true s (inr k) f = (let more = f k in (inr more.0, more.1))
-    go false s k f = (let more = f k in (inr more.0, more.1))
 
 -- ---- The values.
 

@@ -4,3 +4,4 @@ pub mod Closed
 pub mod Asking
 pub mod Graphs
 pub mod Caches
+pub mod Fresh

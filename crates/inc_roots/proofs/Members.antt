@@ -1,6 +1,6 @@
 -- Elements of lists.
-use Rattle.std.proofs.Common.{◌≡◌, ℕ, zero, suc, ◌<◌, ◌⊎◌, inl, inr, List, [], ◌∷◌, ◌++◌, length, refl, sym, subst, arith}
-use Rattle.std.specs.Prelude.{slice_index_or}
+use Rattle.std.proofs.Common.{◌≡◌, ℕ, zero, suc, ◌<◌, ◌⊎◌, inl, inr, Bool, true, false, List, [], ◌∷◌, ◌++◌, length, refl, sym, ◌∙◌, ap, subst, arith, if◌then◌else◌}
+use Rattle.std.specs.Prelude.{filter, slice_index_or}
 use Rattle.std.specs.List.{All, AllByRecursion, Contains, flat_map}
 use Rattle.std.proofs.lemmas.List.Elements.{recursion_from_All}
 
@@ -52,3 +52,24 @@ of_one P (x ∷ xs) q h (inr k) = of_one P xs q h.1 k
 
 pub of_any : {X : Type 0} (P : X → Type 0) (xs : List X) (q : X) → All P xs → IsIn xs q → P q
 of_any P xs q h k = of_one P xs q (recursion_from_All P xs h) k
+
+-- ---- Elements that pass a test.
+
+pub passes_in : {X : Type 0} (p : X → Bool) (xs : List X) (x : X) → IsIn xs x → p x ≡ true → IsIn (filter p xs) x
+passes_in p [] x h e = absurd h
+passes_in p (y ∷ ys) x h e = go (p y) refl h (λ k. passes_in p ys x k e)
+  where
+    go : (b : Bool) → p y ≡ b → IsIn (y ∷ ys) x → (IsIn ys x → IsIn (filter p ys) x) → IsIn (if b then y ∷ filter p ys else filter p ys) x
+    go true s (inl same) f = inl same
+    go true s (inr k) f = inr (f k)
+    go false s (inl same) f = absurd (let bad : true ≡ false = sym e ∙ ap p (sym same) ∙ s in cc)
+    go false s (inr k) f = f k
+
+pub passes_from : {X : Type 0} (p : X → Bool) (xs : List X) (x : X) → IsIn (filter p xs) x → IsIn xs x × (p x ≡ true)
+passes_from p [] x h = absurd h
+passes_from p (y ∷ ys) x h = go (p y) refl h (λ k. passes_from p ys x k)
+  where
+    go : (b : Bool) → p y ≡ b → IsIn (if b then y ∷ filter p ys else filter p ys) x → (IsIn (filter p ys) x → IsIn ys x × (p x ≡ true)) → IsIn (y ∷ ys) x × (p x ≡ true)
+    go true s (inl same) f = (inl same, ap p (sym same) ∙ s)
+    go true s (inr k) f = (let more = f k in (inr more.0, more.1))
+    go false s k f = (let more = f k in (inr more.0, more.1))

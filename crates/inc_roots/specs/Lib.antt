@@ -1,3 +1,4 @@
 pub mod Reached
 pub mod Rooted
 pub mod Asked
+pub mod Fresh

@@ -7,5 +7,5 @@
 mod laws;
 mod roots;
 
-pub use laws::one_graph;
+pub use laws::{fresh_builds, one_graph};
 pub use roots::ask_all;

@@ -1,7 +1,7 @@
 -- One root after the other is asked.
 use Rattle.std.proofs.Common.{◌≡◌, ℕ, Bool, List, [], ◌∷◌, ◌++◌, length, drop, sym, ◌∙◌, ap, subst, arith, append_assoc, append-nil, cond}
 use Rattle.std.specs.List.{All, Contains, count_by}
-use Rattle.std.proofs.lemmas.List.Elements.{All-push, Contains-append_left, Contains-push}
+use Rattle.std.proofs.lemmas.List.Elements.{All-append, All-push, Contains-append_left, Contains-append_right, Contains-push}
 use Rattle.std.proofs.lemmas.List.Sums.{sum_by-append}
 use Rattle.std.proofs.Math.Seq.{drop-append_seam}
 use Rattle.inc_query.specs.TickLaws.{rise-none, rise-rise}
@@ -26,6 +26,18 @@ asked_more b roots q old mid new all one = record {
       all-append (IsReachedFrom (reads_in b b.input) roots) (IsReachedFrom (reads_in b b.input) (roots ++ q ∷ [])) all.more one.more
       (λ r from. (from.0, Contains-append_left roots (q ∷ []) from.0 from.1, from.2)) (all.reached s before)
       (all-weaker (Reached (reads_in b b.input) q) (IsReachedFrom (reads_in b b.input) (roots ++ q ∷ [])) one.more (λ r from. (q, Contains-push roots q, from)) (one.reached s before));
+}
+
+-- some roots and then others
+pub asked_both : (b : Setup) (roots more : List Query) (old mid new : List Query) → AsksAll b roots old mid → AsksAll b more mid new → AsksAll b (roots ++ more) old new
+asked_both b roots more old mid new first last = record {
+  more = first.more ++ last.more;
+  are = last.are ∙ ap (λ qs. qs ++ last.more) first.are ∙ append_assoc old first.more last.more;
+  there = All-append (Contains new) roots more (subst (λ qs. All (Contains qs) roots) (sym last.are) (still_there roots mid last.more first.there)) last.there;
+  reached = λ s before.
+      all-append (IsReachedFrom (reads_in b b.input) roots) (IsReachedFrom (reads_in b b.input) (roots ++ more)) first.more last.more
+      (λ r from. (from.0, Contains-append_left roots more from.0 from.1, from.2)) (first.reached s before)
+      (all-weaker (IsReachedFrom (reads_in b b.input) more) (IsReachedFrom (reads_in b b.input) (roots ++ more)) last.more (λ r from. (from.0, Contains-append_right roots more from.0 from.1, from.2)) (last.reached s before));
 }
 
 -- what was added, of which so many are stale

@@ -21,6 +21,7 @@ pub fn ask_all<P: Providers>(
 ) -> Result<List<Bytes>, Memory>
     requires kinds { All (λ q. q.kind < P.height) roots.now }
     requires queries { All IsQuery roots.now }
+    ensures many { IfOk result (λ vs. length vs ≡ length roots.now) }
     ensures values { IfOk result (λ vs. (s : List ℕ) → Before (setup (P.plan engine.old.setting) P.kept P.ticking P.height engine.old.input engine.old.nodes engine.old.cache) s → vs ≡ map (denote (P.plan engine.old.setting) engine.old.input) roots.now) }
     ensures asks { OnOk result (AsksAll (setup (P.plan engine.old.setting) P.kept P.ticking P.height engine.old.input engine.old.nodes engine.old.cache) roots.now engine.old.asked engine.new.asked) }
     ensures ticks { OnOk result ((s : List ℕ) → Before (setup (P.plan engine.old.setting) P.kept P.ticking P.height engine.old.input engine.old.nodes engine.old.cache) s → IsTrue (P.kept P.ticking) → P.Tick.count meter.new ≡ rise (P.Tick.count meter.old) (count_by (stale (setup (P.plan engine.old.setting) P.kept P.ticking P.height engine.old.input engine.old.nodes engine.old.cache) s) (drop (length engine.old.asked) engine.new.asked))) }

@@ -30,3 +30,4 @@ mod using;
 mod worth;
 
 pub use provider::Rust;
+pub use reading::places_in;

@@ -60,8 +60,9 @@ pub(crate) fn index_read(value: &Bytes) -> Result<Option<ReadIndex>, Memory>
     }
 }
 
-/// The places of items that these bytes are, each once.
-pub(crate) fn places_in(value: &Bytes) -> Result<Option<List<Place>>, Memory>
+/// The places of items that these bytes are, each once (docs/FORMATS.md, "Queries"). None where they aren't in that form; `Memory` where there is
+/// none for the places.
+pub fn places_in(value: &Bytes) -> Result<Option<List<Place>>, Memory>
     ensures { IfOk result (λ o. o ≡ places_in value.now) }
 {
     match read_places(value.allocator(), value.as_slice())? {

@@ -1,4 +1,4 @@
-use Rattle.std.proofs.Common.{◌≡◌, ◌++◌, [], ◌∷◌, drop, length, map, take, sym, ap, ◌∙◌, subst}
+use Rattle.std.proofs.Common.{◌≡◌, ◌++◌, [], ◌∷◌, drop, length, map, take, sym, ap, ◌∙◌, subst, arith, length-append}
 use Rattle.std.specs.List.{count_by}
 use Rattle.std.proofs.lemmas.List.{map-append, take_all, take_more}
 use Rattle.inc_query.specs.Plans.{denote}
@@ -14,6 +14,7 @@ loop-root-init g c =
     let e = c.args.engine.now in
     let b = setup (P.plan e.setting) P.kept P.ticking P.height e.input e.nodes e.cache in
     record {
+      many = ap length c.new-values.ensures;
       values_are = λ s before. c.new-values.ensures;
       asks = asked_none b e.asked;
       ticks = λ s before kept. ticked_none (stale b s) (g.P.Tick.Tally.count c.args.meter.now) e.asked;
@@ -41,6 +42,7 @@ loop-root-preserved g c =
     let from = g.P.Tick.Tally.count c.loop-root.meter in
     let to = g.P.Tick.Tally.count c.get.new.meter in
     record {
+      many = (let long = ap length c.in_ok-push.ensures.ok in let parts = length-append c.loop-root.values (v ∷ []) in omega (arith, long, parts, c.loop-root.invariant.many));
       values_are = λ s before.
           let Is : Build → Type 0 = λ x. Before (of x) s → v ≡ denote (P.plan x.setting) x.input q in
           let value : v ≡ f q = subst Is same (got.value s) before in

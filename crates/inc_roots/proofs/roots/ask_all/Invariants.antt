@@ -12,6 +12,7 @@ invariant-loop-root g l =
     let P = g.P.Providers in
     let e = l.fn.engine in
     record {
+      many : length l.values ≡ l.root-index;
       values_are : (s : List ℕ) → Before (setup (P.plan e.setting) P.kept P.ticking P.height e.input e.nodes e.cache) s → l.values ≡ map (denote (P.plan e.setting) e.input) (take l.root-index l.roots);
       asks : AsksAll (setup (P.plan e.setting) P.kept P.ticking P.height e.input e.nodes e.cache) (take l.root-index l.roots) e.asked l.engine.asked;
       ticks : (s : List ℕ) → Before (setup (P.plan e.setting) P.kept P.ticking P.height e.input e.nodes e.cache) s → IsTrue (P.kept P.ticking) → g.P.Tick.Tally.count l.meter ≡ rise (g.P.Tick.Tally.count l.fn.meter) (count_by (stale (setup (P.plan e.setting) P.kept P.ticking P.height e.input e.nodes e.cache) s) (drop (length e.asked) l.engine.asked));

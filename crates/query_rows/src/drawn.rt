@@ -80,13 +80,13 @@ fn text_of(alloc: Global, forms: &[u8], drawn: &[u32]) -> Result<Bytes, Memory> 
 
 // The form of a line with a number, which counts on from the first again behind the last.
 fn form_of(line: &[u8], number: u32) -> &[u8] {
-    let count = line.split(|byte| *byte == b'~').count() as u32;
+    let count = line.split(|byte| *byte == b'~').count();
     if count == 0 {
         return line;
     }
     match line
         .split(|byte| *byte == b'~')
-        .nth((number % count) as usize)
+        .nth(number as usize % count)
     {
         Some(form) => form,
         None => line,

@@ -3,7 +3,7 @@
 use inc_base::{Bytes, Compiler, List, Memory, Meter};
 use inc_engine::Work;
 use inc_graph::{Cache, Graph};
-use rs_build::build;
+use rs_build::{Queried, build};
 use rs_provider::Rust;
 use rs_queries::{Compiled, compile_read, read};
 use std::alloc::Global;
@@ -63,19 +63,31 @@ impl Left {
         let mut other = Meter::new();
         let direct = compile_read(alloc, &reading, compiler, &mut other)?;
         let is_clean = are_same(&queried.compiled, &direct);
-        let left = Left {
-            graph: queried.graph,
-            cache: queried.cache,
-        };
+        let Queried {
+            compiled,
+            graph,
+            cache,
+            work,
+        } = queried;
         let done = Done {
-            diags: queried.compiled.diags,
+            diags: diags_of(compiled),
             emitted: meter.count(),
             units: direct.units,
-            work: queried.work,
+            work,
             is_clean,
         };
-        Ok((left, done))
+        Ok((Left { graph, cache }, done))
     }
+}
+
+fn diags_of(compiled: Compiled) -> Bytes {
+    let Compiled {
+        diags,
+        units: _,
+        built,
+    } = compiled;
+    drop(built);
+    diags
 }
 
 fn are_same(one: &Compiled, other: &Compiled) -> bool {

@@ -2,3 +2,7 @@
 //!
 //! `plan_laws` and all that it speaks of stand below. Open `specs/Bounded.antt` first, and then `src/trees.rt`.
 #![tactic(auto)]
+
+mod diagnostics;
+
+pub use diagnostics::constants_fit;

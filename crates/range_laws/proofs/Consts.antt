@@ -1,6 +1,6 @@
 -- The values of constants are in the signed 64-bit range.
-use Rattle.std.proofs.Common.{◌≡◌, ℕ, zero, suc, ◌+◌, ◌<◌, ◌≤◌, ℤ, pos, negsuc, Bool, true, false, not, List, [], ◌∷◌, ◌++◌, drop, length, map, Option, Some, None, Result, Ok, Err, refl, sym, ap, ◌∙◌, subst, arith}
-use Rattle.std.specs.Prelude.{FitsSigned, ◌^◌, ◌-◌, ◌||◌, int_lt, int_le, int_div, int_rem, is_none, unsigned_abs, neg_ℤ, ◌+ℤ◌, ◌-ℤ◌, ◌*ℤ◌, if◌then◌else◌, ◌&&◌, slice_get, option_and_then, ltb}
+use Rattle.std.proofs.Common.{◌≡◌, ℕ, zero, suc, ◌<◌, ◌≤◌, ℤ, pos, negsuc, Bool, true, false, List, [], ◌∷◌, drop, length, map, Option, Some, None, Ok, Err, refl, sym, subst, arith}
+use Rattle.std.specs.Prelude.{FitsSigned, ◌^◌, ◌-◌, ◌||◌, int_lt, int_le, int_div, int_rem, is_none, unsigned_abs, neg_ℤ, ◌+ℤ◌, ◌-ℤ◌, ◌*ℤ◌, if◌then◌else◌, slice_get, option_and_then, ltb}
 use Rattle.std.specs.Int.{w64}
 use Rattle.std.specs.List.{AllByRecursion, cons_option, filter_map, list_any}
 use Rattle.std.specs.Option.{option_map_or}
@@ -15,7 +15,6 @@ use Rattle.rs_tree.specs.declared.index.Sig.{Sig}
 use Rattle.rs_tree.specs.declared.place.Place.{Place}
 use Rattle.rs_tree.specs.declared.tree.ArithOp.{ArithOp}
 use Rattle.rs_tree.specs.declared.tree.ArithOp.TheVariants.{Add, Sub, Mul, Div, Rem}
-use Rattle.rs_tree.specs.declared.tree.Crate.{Crate}
 use Rattle.rs_tree.specs.declared.tree.Path as path
 use Rattle.rs_tree.specs.declared.tree.Placed.{Placed}
 use Rattle.rs_tree.specs.declared.tree.Typ.{Typ}
@@ -27,10 +26,10 @@ use Rattle.rs_tree.specs.Leaves.{answer, filled, filled_all, filled_by, leaves}
 use Rattle.rs_answers.specs.Fits.{FitsConst}
 use Rattle.rs_const.specs.Constants.{AreValues, Entry, IsInCycle, IsValue, const_of, const_wrongs, given_by, is_some_wrong, named, names, number, sigs_of, value_at, worth, worth_by}
 use Rattle.rs_lookup.specs.Places.{Name}
-use Rattle.rs_queries.specs.Known.{Answered, answered, all_answered, constants_of, entry_by, entry_of, items_of}
+use Rattle.rs_queries.specs.Known.{answered, entry_by, entry_of}
 use Rattle.rs_value.specs.Value.{Outcome, all, and_then, any, arithmetic, chain, fits, given, holds, is_zero, number_of, unary, value, within}
 use Rattle.rs_value.specs.declared.trap.Trap.TheVariants.{Overflow, DivZero, NoValue}
-use Rattle.range_laws.specs.Bounded.{BoundedAll, BoundedBy, BoundedCrate, BoundedDefinition, BoundedExp, BoundedItem}
+use Rattle.range_laws.specs.Bounded.{BoundedAll, BoundedBy, BoundedDefinition, BoundedExp, BoundedItem}
 
 -- ---- Numbers.
 

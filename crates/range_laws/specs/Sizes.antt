@@ -1,5 +1,5 @@
 -- How large a tree is: no more than the tokens that it is written with.
-use Rattle.std.specs.Prelude.{ℕ, ◌+◌, List, Option, Some, None, length}
+use Rattle.std.specs.Prelude.{ℕ, ◌+◌, Option, Some, None, length}
 use Rattle.rs_tree.specs.Plain.{Exp, Exps, Operands, Number, Truth, Path, Call, Group, Unary, Arith, Compare, And, Or, Done, By}
 use Rattle.rs_tree.specs.Plain.{Sta, Stas, Arms, Let, Assign, Return, Eval, While, If, Print, Bare, Else, Arm, Definition, Const, Func}
 

@@ -1,3 +1,5 @@
+//! What is said of a text.
+
 ghost use Rattle.std.specs.Prelude.{◌≡◌, List};
 ghost use Rattle.std.specs.List.{AllByRecursion};
 ghost use Rattle.rs_tree.specs.declared.answers.Const.{Const};

@@ -4,3 +4,4 @@ pub mod Among
 pub mod Roots
 pub mod Trees
 pub mod Reaches
+pub mod Anew

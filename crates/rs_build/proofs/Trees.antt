@@ -66,6 +66,10 @@ pub ok_weaker : {A E : Type 0} (P Q : A → Type 0) (r : Result A E) → ((a : A
 ok_weaker P Q (Ok a) f h = f a h
 ok_weaker P Q (Err e) f h = tt
 
+pub ok_of_three : {A E : Type 0} (P Q R S : A → Type 0) (r : Result A E) → ((a : A) → P a → Q a → R a → S a) → IfOk r P → IfOk r Q → IfOk r R → IfOk r S
+ok_of_three P Q R S (Ok a) f p q r = f a p q r
+ok_of_three P Q R S (Err e) f p q r = tt
+
 pub on_ok : {A E P : Type 0} (r : Result A E) → P → OnOk r P
 on_ok (Ok a) h = h
 on_ok (Err e) h = tt

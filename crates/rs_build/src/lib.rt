@@ -6,9 +6,11 @@
 
 mod asked;
 mod asking;
+mod laws;
 mod made;
 mod queried;
 mod told;
 mod tree;
 
+pub use laws::fresh_builds_make_all;
 pub use queried::{Queried, build};

@@ -9,7 +9,7 @@ ghost use Rattle.inc_engine.specs.Builds.{stale};
 ghost use Rattle.inc_engine.specs.Finish.{HasKept};
 ghost use Rattle.inc_roots.specs.Asked.{AsksAll};
 ghost use Rattle.rs_text.specs.Text.{text_of};
-ghost use Rattle.rs_queries.specs.Built.{IsCompiled};
+ghost use Rattle.rs_queries.specs.Built.{IsCompiled, emitted};
 ghost use Rattle.rs_queries.specs.Reading.{IsReading};
 ghost use Rattle.rs_plans.specs.Steps.{whole};
 ghost use Rattle.rs_provider.specs.Kept.{is_kept};
@@ -18,6 +18,7 @@ ghost use Rattle.plan_laws.specs.Roots.{IsTextFitting};
 ghost use Rattle.rs_build.specs.Over.{HasTicked, IsAsBefore, IsOver, IsReached, IsReadAssembled, WasAsked, begun, kept_values, reached_graph, setup_of, value_of};
 
 use crate::asked::index_query;
+use crate::laws::fresh_builds_make_all;
 use crate::tree::compiled_tree;
 use inc_base::{Compiler, List, Memory, Meter};
 use inc_engine::{Engine, Work};
@@ -49,7 +50,8 @@ pub struct Queried {
 /// asked, what they say is put together, and the engine is finished (docs/ARCHITECTURE.md, "How a query runs").
 ///
 /// What is compiled is what the clean build says of the text, and the graph and the cache are those of the text and of no other, whatever
-/// was taken over from the earlier build. The meter rises by the objects that were made anew. `Memory` where there is none for any of this.
+/// was taken over from the earlier build. The meter rises by the objects that were made anew: where there is no
+/// earlier build by all, as the clean build's does. `Memory` where there is none for any of this.
 pub fn build(
     alloc: Global,
     provider: Rust,
@@ -65,11 +67,13 @@ pub fn build(
     ensures graph { IfOk result (λ q. (s : List ℕ) → IsOver (begun provider.text provider.compiler graph cache) s → q.graph ≡ reached_graph provider.compiler provider.text) }
     ensures cache { IfOk result (λ q. (s : List ℕ) → IsOver (begun provider.text provider.compiler graph cache) s → q.cache ≡ kept_values provider.compiler provider.text) }
     ensures ticked { IfOk result (λ q. (s : List ℕ) → IsOver (begun provider.text provider.compiler graph cache) s → meter.new ≡ rise meter.old (count_by (stale (setup_of (begun provider.text provider.compiler graph cache)) s) (queries_of q.graph))) }
+    ensures fresh { IfOk result (λ q. graph ≡ [] → cache ≡ [] → meter.new ≡ rise meter.old (emitted q.compiled)) }
     ensures is_graph { IfOk result (λ q. IsGraph q.graph) }
     ensures is_cache { IfOk result (λ q. IsCache q.graph q.cache) }
     ensures kept { IfOk result (λ q. HasKept is_kept q.graph q.cache) }
 {
     builds_by_queries_are_clean();
+    fresh_builds_make_all();
     let compiler = provider.compiler;
     let mut engine = Engine::with_previous(alloc, provider, graph, cache);
     match compiled_read(alloc, &mut engine, reading, compiler, meter) {

@@ -8,14 +8,15 @@ use Rattle.inc_engine.specs.Builds.{Build, stale}
 use Rattle.inc_roots.specs.Asked.{AsksAll}
 use Rattle.inc_roots.specs.Rooted.{cache_of, graph_of}
 use Rattle.rs_text.specs.Text.{text_of}
-use Rattle.rs_queries.specs.Built.{IsCompiled}
+use Rattle.rs_queries.specs.Built.{IsCompiled, emitted}
 use Rattle.rs_plans.specs.Plans.{plan_of}
 use Rattle.rs_provider.specs.Kept.{is_kept}
 use Rattle.plan_laws.specs.Assembled.{roots_read}
 use Rattle.plan_laws.specs.Roots.{IsTextFitting}
 use Rattle.rs_build.specs.Over.{IsOver, IsReached, IsReadAssembled, begun, kept_values, reached_graph, roots_of, setting_of, setup_of, value_of}
 use Rattle.rs_build.proofs.Reaches.{compiled_is, counted}
-use Rattle.rs_build.proofs.Trees.{ok_weaker}
+use Rattle.rs_build.proofs.Anew.{all_counted}
+use Rattle.rs_build.proofs.Trees.{ok_of_three, ok_weaker}
 use Rattle.rs_build.proofs.queried.build.Goals as goal
 
 pub returns-in-Ok-clause-compiled : goal.returns-in-Ok-clause-compiled
@@ -71,3 +72,20 @@ returns-in-Ok-clause-ticked c =
     ∙ ap (λ f. rise from (count_by (stale (setup_of f) s) (drop (length f.asked) asked))) is
     ∙ ap (rise from) (counted (stale (setup_of b) s) asked (queries_of q.graph) moved))
     c.finished.ensures.asked
+
+pub returns-in-Ok-clause-fresh : goal.returns-in-Ok-clause-fresh
+returns-in-Ok-clause-fresh c =
+    let p = c.args.provider in
+    let b = begun p.text p.compiler c.args.graph c.args.cache in
+    let is = c.with_previous-engine.ensures in
+    let made = c.in-Ok.compiled in
+    let from = c.args.meter.now in
+    let to = c.compiled_read.new.meter in
+    ok_of_three (λ q. q.compiled ≡ made) (λ q. (s : List ℕ) → IsOver b s → q.graph ≡ reached_graph p.compiler p.text)
+    (λ q. (s : List ℕ) → IsOver b s → to ≡ rise from (count_by (stale (setup_of b) s) (queries_of q.graph)))
+    (λ q. c.args.graph ≡ [] → c.args.cache ≡ [] → to ≡ rise from (emitted q.compiled)) c.finished.result
+    (λ q same graph ticked none no_values.
+    all_counted c.fresh_builds_make_all.ensures.over c.fresh_builds_make_all.ensures.made p.compiler p.text c.args.graph c.args.cache q.graph from to made none no_values
+    (λ s over. subst (λ f. IsReadAssembled (value_of f) f.input p.compiler.level made) is (c.in-Ok.ensures.compiled s (subst (λ f. IsOver f s) (sym is) over))) graph ticked
+    ∙ ap (λ d. rise from (emitted d)) (sym same))
+    c.finished.ensures.compiled (returns-in-Ok-clause-graph c) (returns-in-Ok-clause-ticked c)

@@ -166,7 +166,8 @@ fn bytes_are_added_to_and_copies_stay(rt: HostRuntime) -> Result<(), Fail> {
         bytes.append_two(b"1", b"2")?;
         bytes.push(b'3')?;
         assert_eq!(rt; bytes.len(), count + 28);
-        assert_eq!(rt; before.as_slice(), &plain.as_slice()[..count]);
+        assert_eq!(rt; before.len(), count);
+        assert!(rt; plain.as_slice().starts_with(before.as_slice()));
     }
     Ok(())
 }

@@ -145,7 +145,7 @@ fn lists_are_ordered_and_joined(rt: HostRuntime) -> Result<(), Fail> {
 #[test]
 fn bytes_are_added_to_and_copies_stay(rt: HostRuntime) -> Result<(), Fail> {
     let alloc = rt.alloc();
-    for count in [0usize, 20, 21, 22, 23, 64] {
+    for count in [0usize, 13, 14, 15, 23, 64] {
         let mut plain = Vec::new(alloc);
         for _ in 0..count {
             plain.push(b'a')?;

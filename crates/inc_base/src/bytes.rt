@@ -19,7 +19,7 @@ use std::{fmt, mem};
 
 /// A list of bytes, of which there are at most `MOST`: room for more counts as memory that isn't there.
 ///
-/// A copy takes no memory: a text of up to 22 bytes stands in the value itself, and a longer one stands in a
+/// A copy takes no memory: a text of up to 14 bytes stands in the value itself, and a longer one stands in a
 /// block that its copies share. What is added to such a text goes into its block where no copy shares it, and
 /// else into a block of its own.
 #[derive(Drop)]
@@ -129,7 +129,7 @@ fn block_of(
 }
 
 fn placed(alloc: Global, bytes: &[u8]) -> Bytes
-    requires { length bytes.now ≤ 22 }
+    requires { length bytes.now ≤ 14 }
     ensures { result ≡ bytes.now }
 {
     let mut short = Short::new();
@@ -174,7 +174,7 @@ impl Bytes {
         shared(alloc, Vec::from_slice(alloc, bytes)?)
     }
 
-    /// A vector's bytes, which are at most `MOST`, without a copy of them where they are more than 22. `Memory`
+    /// A vector's bytes, which are at most `MOST`, without a copy of them where they are more than 14. `Memory`
     /// where there is none for their block.
     pub fn from_vec(bytes: Vec<u8>) -> Result<Bytes, Memory>
         requires { length bytes.items < 2 ^ 32 }

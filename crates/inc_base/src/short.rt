@@ -5,7 +5,7 @@ ghost use Rattle.std.specs.Prelude.{◌≡◌, ◌+◌, ◌≤◌, [], ◌++◌,
 use std::marker::Model;
 
 /// How many bytes there is room for.
-pub(crate) const ROOM: usize = 22;
+pub(crate) const ROOM: usize = 14;
 
 /// At most `ROOM` bytes, which stand in the value itself. Contracts see their list.
 #[derive(Drop)]
@@ -21,7 +21,7 @@ impl Model for Short {
 
     ghost view = { λ s. take s.count s.bytes };
 
-    ghost invariant = { λ s. s.count ≤ 22 };
+    ghost invariant = { λ s. s.count ≤ 14 };
 }
 
 impl Short {
@@ -36,7 +36,7 @@ impl Short {
 
     pub(crate) fn as_slice(&self) -> &[u8]
         ensures value { result.now ≡ self.now }
-        ensures few { length self.now ≤ 22 }
+        ensures few { length self.now ≤ 14 }
     {
         &self.bytes[..self.count as usize]
     }
@@ -53,14 +53,14 @@ impl Short {
 
     /// How many more there is room for.
     pub(crate) fn left(&self) -> usize
-        ensures { length self.now + result ≡ 22 }
+        ensures { length self.now + result ≡ 14 }
     {
         ROOM - self.count as usize
     }
 
     /// Adds a piece at the end.
     pub(crate) fn add(&mut self, piece: &[u8])
-        requires { length self.old + length piece.now ≤ 22 }
+        requires { length self.old + length piece.now ≤ 14 }
         ensures { self.new ≡ self.old ++ piece.now }
     {
         let from = self.count as usize;

@@ -1,2 +1,3 @@
+pub mod InOrder
 pub mod Lookups
 pub mod ScopeLemmas

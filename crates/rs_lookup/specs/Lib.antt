@@ -1,4 +1,6 @@
 pub mod Env
 pub mod Keys
+pub mod Orders
 pub mod Places
+pub mod Ready
 pub mod Tracks

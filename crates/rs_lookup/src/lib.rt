@@ -4,8 +4,12 @@
 //! resolves, checks and lowers above. Open `specs/Places.antt` and `specs/Env.antt` for what a look-up answers.
 #![tactic(auto)]
 
+mod keys;
+mod order;
 mod places;
 mod scope;
 
+pub use keys::places_of_items;
+pub use order::Order;
 pub use places::{Key, Places};
 pub use scope::Scope;

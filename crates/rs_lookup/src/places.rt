@@ -4,6 +4,7 @@ ghost use Rattle.std.specs.BTreeMap.{get};
 ghost use Rattle.rs_lookup.specs.Keys.{Held, plain, held_cmp};
 ghost use Rattle.rs_lookup.specs.Places.{place_from};
 
+use crate::order::Order;
 use inc_base::Memory;
 use std::alloc::Global;
 use std::collections::BTreeMap;
@@ -15,20 +16,26 @@ pub type Key<'a> = (&'a [u8], &'a [u8]);
 /// A list of places, made ready for look-ups.
 #[derive(Drop)]
 pub struct Places<'a> {
-    keys: Vec<Key<'a>>,
-    first: BTreeMap<Key<'a>, usize>,
+    form: Form<'a>,
+}
+
+/// Made for the list, or by an order that is kept.
+#[derive(Drop)]
+pub(crate) enum Form<'a> {
+    Made(Vec<Key<'a>>, BTreeMap<Key<'a>, usize>),
+    Kept(&'a Order),
 }
 
 impl<'a> Model for Places<'a> {
-    ghost use Rattle.std.specs.Prelude.{List, map};
+    ghost use Rattle.std.specs.Prelude.{List};
     ghost use Rattle.rs_lookup.specs.Places.{Name};
-    ghost use Rattle.rs_lookup.specs.Keys.{plain, Leads};
+    ghost use Rattle.rs_lookup.specs.Ready.{IsReady, names_in};
 
     ghost Value = { List Name };
 
-    ghost view = { λ p. map plain p.keys.items };
+    ghost view = { λ p. names_in p.form };
 
-    ghost invariant = { λ p. Leads p.first (map plain p.keys.items) };
+    ghost invariant = { λ p. IsReady p.form };
 }
 
 impl<'a> Places<'a> {
@@ -37,21 +44,38 @@ impl<'a> Places<'a> {
         ensures { IfOk result (λ p. p ≡ map plain keys.entry.items) }
     {
         let first = first_places(alloc, &keys)?;
-        Ok(Places { keys, first })
+        Ok(Places {
+            form: Form::Made(keys, first),
+        })
+    }
+
+    /// The places of an order, at once.
+    pub fn by(order: &'a Order) -> Places<'a>
+        ensures { result ≡ order.now }
+    {
+        Places {
+            form: Form::Kept(order),
+        }
     }
 
     /// The place at a position.
     pub fn key(&self, at: usize) -> Option<Key<'a>>
         ensures { option_map plain result ≡ slice_get self.now at }
     {
-        self.keys.get(at).copied()
+        match &self.form {
+            Form::Made(keys, _) => keys.get(at).copied(),
+            Form::Kept(order) => order.key(at),
+        }
     }
 
     /// The position of the first of the places that is this one.
     pub fn find(&self, key: Key<'a>) -> Option<usize>
         ensures { result ≡ place_from (plain key.entry) 0 self.now }
     {
-        self.first.get(&key).copied()
+        match &self.form {
+            Form::Made(_, first) => first.get(&key).copied(),
+            Form::Kept(order) => order.find(key),
+        }
     }
 }
 

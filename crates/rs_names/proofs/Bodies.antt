@@ -6,7 +6,7 @@ use Rattle.std.proofs.Math.Seq.{drop-append_seam}
 use Rattle.rs_tree.specs.declared.tree.Expr.{Expr}
 use Rattle.rs_tree.specs.declared.tree.Stmt.{Stmt}
 use Rattle.rs_tree.specs.declared.tree.Path as path
-use Rattle.rs_tree.specs.Plain.{Exp, Sta, Stas, Arms, Let, Assign, Return, Eval, While, If, Print, Bare, Else, Arm, exp, statements, choices}
+use Rattle.rs_tree.specs.Plain.{Exp, Sta, Stas, Arms, Let, Assign, Return, Eval, While, If, Print, Bare, Arm, exp, statements, choices}
 use Rattle.rs_tree.specs.Equations.{turns, known_forms, known_statements, known_bodies, choices_at}
 use Rattle.rs_tree.specs.Weight.{weighs}
 use Rattle.rs_names.specs.declared.resolve.Resolver.{Resolver}

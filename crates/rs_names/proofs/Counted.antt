@@ -1,9 +1,9 @@
 -- As many answers as paths.
-use Rattle.std.proofs.Common.{◌≡◌, ℕ, ◌+◌, List, [], ◌++◌, length, map, ◌∙◌, sym, refl, length-append}
+use Rattle.std.proofs.Common.{◌≡◌, ◌+◌, List, [], ◌++◌, length, map, ◌∙◌, sym, refl, length-append}
 use Rattle.std.proofs.lemmas.List.{length-map}
 use Rattle.rs_tree.specs.declared.answers.Found.{Found}
 use Rattle.rs_tree.specs.declared.tree.Path as path
-use Rattle.rs_tree.specs.Plain.{Sta, Stas, Arms, Let, Assign, Return, Eval, While, If, Print, Bare, Else, Arm, Definition, Const, Func}
+use Rattle.rs_tree.specs.Plain.{Sta, Stas, Arms, Let, Assign, Return, Eval, While, If, Print, Bare, Else, Arm, Const, Func}
 use Rattle.rs_tree.specs.Leaves.{leaves, leaves_in, sta_leaves, stas_leaves, arms_leaves}
 use Rattle.rs_names.specs.Resolved.{Locals, path_answer, with_params, after, after_all, sta_answers, stas_answers, arms_answers}
 use Rattle.rs_names.specs.Laws.{OneEach}

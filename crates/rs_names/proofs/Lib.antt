@@ -1,5 +1,5 @@
 pub mod Bodies
 mod Counted
-mod Firsts
+pub mod NamedItems
 pub mod NamesOf
 pub mod Steps

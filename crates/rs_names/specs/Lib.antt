@@ -1,4 +1,3 @@
-pub mod Firsts
 pub mod Indexed
 pub mod Laws
 pub mod Names

@@ -7,7 +7,7 @@ use Rattle.rs_tree.specs.declared.answers.Found.TheVariants.{Local, Item, Privat
 use Rattle.rs_tree.specs.declared.index.IndexItem.{IndexItem}
 use Rattle.rs_tree.specs.declared.tree.Param.{Param}
 use Rattle.rs_tree.specs.declared.tree.Path as path
-use Rattle.rs_tree.specs.Plain.{Exp, Sta, Stas, Arms, Let, Assign, Return, Eval, While, If, Print, Bare, Else, Arm, Definition, Const, Func}
+use Rattle.rs_tree.specs.Plain.{Sta, Stas, Arms, Let, Assign, Return, Eval, While, If, Print, Bare, Else, Arm, Definition, Const, Func}
 use Rattle.rs_tree.specs.Leaves.{leaves, leaves_in}
 use Rattle.rs_lookup.specs.Places.{Name, same, item_name}
 

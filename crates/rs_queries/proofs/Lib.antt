@@ -1,5 +1,5 @@
 mod Emitted
 pub mod Exact
-mod Tellings
+pub mod Tellings
 pub mod Values
 mod Wholes

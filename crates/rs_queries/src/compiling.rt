@@ -58,7 +58,8 @@ pub fn compile_read(
     }
 }
 
-fn compile_fault(alloc: Global, fault: &TextFault) -> Result<Compiled, Memory>
+/// What a compiler makes of a text with a fault: its one line.
+pub fn compile_fault(alloc: Global, fault: &TextFault) -> Result<Compiled, Memory>
     ensures { IfOk result (IsFaultCompiled fault.now) }
 {
     let diags = fault_text(alloc, fault)?;

@@ -26,7 +26,7 @@ mod reading;
 
 pub use cleaning::{clean, clean_read};
 pub use compiled::{Built, CleanBuild, Compiled};
-pub use compiling::{compile, compile_read};
+pub use compiling::{compile, compile_fault, compile_read};
 pub use diagnosis::diagnose;
 pub use laws::{texts_have_one_build, texts_have_one_diagnosis};
 pub use limit::{Limit, over_limit, read_within};

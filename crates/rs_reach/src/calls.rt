@@ -1,17 +1,17 @@
-ghost use Rattle.std.specs.Prelude.{◌≡◌, ◌++◌, [], ◌∷◌, if◌then◌else◌, slice_get, IfOk, OnOk};
+ghost use Rattle.std.specs.Prelude.{◌≡◌, ◌++◌, [], ◌∷◌, map, if◌then◌else◌, slice_get, IfOk, OnOk};
 ghost use Rattle.std.specs.Option.{option_map, option_to_list};
 ghost use Rattle.rs_tree.specs.Plain.{definition};
+ghost use Rattle.rs_lookup.specs.Places.{item_name};
 ghost use Rattle.rs_reach.specs.Search.{added};
 ghost use Rattle.rs_reach.specs.Places.{numbers};
 ghost use Rattle.rs_reach.specs.Dead.{place_of};
 ghost use Rattle.rs_reach.specs.Calls.{called, calls_in, places_at, with_item};
 
 use crate::dead::{function_marks, place_of};
-use crate::keys::places_of_items;
 use crate::marks::Marks;
 use crate::search::{left_of, tell};
 use inc_base::{List, Memory};
-use rs_lookup::Places;
+use rs_lookup::{Order, Places, places_of_items};
 use rs_tree::{Found, Index, IndexItem, Item, Place};
 use std::alloc::Global;
 use std::marker::Model;
@@ -63,6 +63,20 @@ impl<'a> Callees<'a> {
         let places = places_of_items(alloc, items)?;
         let may = function_marks(alloc, items)?;
         Ok(Callees { items, places, may })
+    }
+
+    /// The items of this index by an order of them that is kept, in one look at each.
+    pub fn by(index: &'a Index, order: &'a Order) -> Result<Callees<'a>, Memory>
+        requires { order.now ≡ map item_name index.now.items }
+        ensures { IfOk result (λ c. c ≡ index.now.items) }
+    {
+        let items = index.items.as_slice();
+        let may = function_marks(index.items.allocator(), items)?;
+        Ok(Callees {
+            items,
+            places: Places::by(order),
+            may,
+        })
     }
 
     /// The functions that an item calls, as the function `calls_of` has them. The answers last as long as the

@@ -2,9 +2,9 @@ ghost use Rattle.std.specs.Prelude.{◌≡◌, ◌&&◌, ◌++◌, ◌∷◌, if
 ghost use Rattle.rs_reach.specs.Places.{IsLeft};
 ghost use Rattle.rs_reach.specs.Dead.{numbers_where, places_where, place_of, search, is_function, is_main, is_silent, dead_of};
 
-use crate::keys::places_of_items;
 use crate::search::{Reached, search};
 use inc_base::{Copied, List, Memory};
+use rs_lookup::places_of_items;
 use rs_tree::{Index, IndexItem, Place};
 use std::alloc::Global;
 

@@ -1,22 +1,10 @@
-ghost use Rattle.std.specs.Prelude.{◌≡◌, map, IfOk};
-ghost use Rattle.rs_lookup.specs.Places.{item_name};
+ghost use Rattle.std.specs.Prelude.{◌≡◌, IfOk};
 ghost use Rattle.rs_reach.specs.Places.{call_names};
 
 use inc_base::{List, Memory};
 use rs_lookup::Places;
-use rs_tree::{IndexItem, Place};
+use rs_tree::Place;
 use std::alloc::Global;
-
-/// The places of items, ready for look-ups.
-pub fn places_of_items<'a>(alloc: Global, items: &'a [IndexItem]) -> Result<Places<'a>, Memory>
-    ensures { IfOk result (λ p. p ≡ map item_name items.now) }
-{
-    let mut keys = Vec::new(alloc);
-    for item in items {
-        keys.push((item.module.as_slice(), item.name.as_slice()))?;
-    }
-    Places::new(alloc, keys)
-}
 
 /// The places whose calls are known, ready for look-ups.
 pub fn places_of_calls<'a>(

@@ -18,6 +18,6 @@ pub mod search;
 pub use calls::{Callees, calls_of, places_at};
 pub use cycles::in_cycles;
 pub use dead::{dead_items, is_marked, number_if, place_of};
-pub use keys::{places_of_calls, places_of_items};
+pub use keys::places_of_calls;
 pub use laws::search_is_exact;
 pub use reached::reached_from;

@@ -7,9 +7,9 @@ ghost use Rattle.rs_reach.specs.Places.{IsLeft, ask, call_names};
 ghost use Rattle.rs_units.specs.Ready.{kept};
 
 use inc_base::{List, Memory};
-use rs_lookup::Places;
+use rs_lookup::{Places, places_of_items};
+use rs_reach::places_of_calls;
 use rs_reach::search::{Reached, calls_of, left_of, next, tell};
-use rs_reach::{places_of_calls, places_of_items};
 use rs_tree::{IndexItem, Place};
 use std::alloc::Global;
 

@@ -42,7 +42,7 @@ fits_is : (z : ℤ) → fits z ≡ true → FitsSigned w64 z
 fits_is (pos n) e = (let h = ltb-true n (2 ^ 63) (right_of (int_le (negsuc (2 ^ 63 - 1)) (pos n)) (int_lt (pos n) (pos (2 ^ 63))) e) in record { sfits = h })
 fits_is (negsuc n) e = (let h = leb-true n (2 ^ 63 - 1) (left_of (int_le (negsuc (2 ^ 63 - 1)) (negsuc n)) (int_lt (negsuc n) (pos (2 ^ 63))) e) in record { sfits = omega (arith, h) })
 
-truth_fits : (b : Bool) → FitsSigned w64 (number_of b)
+pub truth_fits : (b : Bool) → FitsSigned w64 (number_of b)
 truth_fits true = record { sfits = omega arith }
 truth_fits false = record { sfits = omega arith }
 
@@ -68,7 +68,7 @@ rem_fits x y f e =
     small (pos n) g = (let l = g.sfits in omega (arith, l))
     small (negsuc n) g = (let l = g.sfits in omega (arith, l))
 
-arithmetic_fits : (op : ArithOp) (x y : ℤ) → FitsSigned w64 y → InRange (arithmetic op x y)
+pub arithmetic_fits : (op : ArithOp) (x y : ℤ) → FitsSigned w64 y → InRange (arithmetic op x y)
 arithmetic_fits Add x y f = within_fits (x +ℤ y)
 arithmetic_fits Sub x y f = within_fits (x -ℤ y)
 arithmetic_fits Mul x y f = within_fits (x *ℤ y)
@@ -87,11 +87,11 @@ arithmetic_fits Rem x y f = by (is_zero y) refl
     by true e = tt
     by false e = of (fits (int_div x y)) (rem_fits x y f e)
 
-and_then_fits : (o : Outcome) (f : ℤ → Outcome) → InRange o → ((v : ℤ) → FitsSigned w64 v → InRange (f v)) → InRange (and_then o f)
+pub and_then_fits : (o : Outcome) (f : ℤ → Outcome) → InRange o → ((v : ℤ) → FitsSigned w64 v → InRange (f v)) → InRange (and_then o f)
 and_then_fits (Ok v) f h g = g v h
 and_then_fits (Err t) f h g = tt
 
-unary_fits : (op : UnaryOp) (v : ℤ) → InRange (unary op v)
+pub unary_fits : (op : UnaryOp) (v : ℤ) → InRange (unary op v)
 unary_fits Negate v = within_fits (neg_ℤ v)
 unary_fits Not v = truth_fits (is_zero v)
 
@@ -102,7 +102,7 @@ abbrev pub Gives : Option ℤ → Type 0
 Gives None = Unit {0}
 Gives (Some v) = FitsSigned w64 v
 
-given_fits : (o : Option ℤ) → Gives o → InRange (given o)
+pub given_fits : (o : Option ℤ) → Gives o → InRange (given o)
 given_fits None h = tt
 given_fits (Some v) h = h
 
@@ -115,11 +115,11 @@ drop_gives zero gs h = h
 drop_gives (suc n) [] h = tt
 drop_gives (suc n) (g ∷ gs) h = drop_gives n gs h.1
 
-all_step : (b : Bool) (o : Outcome) → InRange o → InRange (if b then Ok (pos 0) else o)
+pub all_step : (b : Bool) (o : Outcome) → InRange o → InRange (if b then Ok (pos 0) else o)
 all_step true o h = truth_fits false
 all_step false o h = h
 
-any_step : (b : Bool) (o : Outcome) → InRange o → InRange (if b then o else Ok (pos 1))
+pub any_step : (b : Bool) (o : Outcome) → InRange o → InRange (if b then o else Ok (pos 1))
 any_step true o h = h
 any_step false o h = truth_fits true
 

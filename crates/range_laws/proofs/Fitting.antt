@@ -73,7 +73,7 @@ crate_fits text krate e b =
 
 -- ---- The items.
 
-few_params : (d : Definition path.Path) → definition_size d ≤ most → length (params_of d) ≤ most
+pub few_params : (d : Definition path.Path) → definition_size d ≤ most → length (params_of d) ≤ most
 few_params (Const typ value) h = omega arith
 few_params (Func inlined params gives stmts tail) h = (let l = length-map params (λ (p : Param). p.typ) in omega (arith, h, l))
 

@@ -4,4 +4,21 @@ mod Fine
 mod Whole
 mod Lexed
 mod Fitting
+mod Told
+mod Said
+mod Judged
 pub mod Consts
+mod Named
+mod Worth
+mod Instructions
+mod Coded
+mod Shrunk
+mod Folded
+mod Bodies
+mod Slots
+mod Lowers
+mod Founds
+mod Emitted
+mod Formed
+mod Objects
+mod Rooted

@@ -2,10 +2,11 @@
 use Rattle.std.proofs.Common.{◌≡◌, [], ◌∷◌, Option, Some, None, refl, ap}
 use Rattle.inc_query.specs.Plans.{Known, Plan, Give, Need, follow}
 use Rattle.rs_plans.specs.Steps.{given_or_empty}
-use Rattle.rs_provider.specs.Rests.{after_all, answer_of}
+use Rattle.rs_provider.specs.Begun.{after_all, values_of}
+use Rattle.rs_provider.specs.Rests.{answer_of}
 
 -- what it answers after reads is what is left of it then
-pub follows : (plan : Plan) (known : Known) → answer_of (after_all plan known) ≡ follow plan known
+pub follows : (plan : Plan) (known : Known) → answer_of (after_all plan (values_of known)) ≡ follow plan known
 follows (Give w) [] = refl
 follows (Need r k) [] = refl
 follows (Give w) (x ∷ xs) = follows (Give w) xs

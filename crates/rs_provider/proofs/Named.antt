@@ -1,12 +1,9 @@
 -- The items that paths lead to, one after the other.
 use Rattle.std.proofs.Common.{◌≡◌, ◌||◌, Bool, true, false, List, [], ◌∷◌, ◌++◌, refl, sym, ap, ◌∙◌, append_assoc, append-nil, if◌then◌else◌}
 use Rattle.rs_lookup.specs.Places.{place_name, same}
-use Rattle.rs_reach.specs.Calls.{with_item}
-use Rattle.rs_tree.specs.declared.answers.Found.{Found}
-use Rattle.rs_tree.specs.declared.answers.Found.TheVariants as f
 use Rattle.rs_tree.specs.declared.place.Place.{Place}
 use Rattle.rs_plans.specs.Names.{is_among, once, once_from}
-use Rattle.rs_provider.specs.Naming.{with_new}
+use Rattle.rs_provider.specs.Naming.{HaveSame, with_new}
 
 or_false : (a : Bool) → (a || false) ≡ a
 or_false true = refl
@@ -30,6 +27,10 @@ among_last q (x ∷ xs) p =
     ∙ sym (or_assoc (same (place_name q) (place_name x)) (same (place_name q) (place_name p)) (is_among xs q))
     ∙ ap (λ b. b || is_among xs q) (or_last (same (place_name q) (place_name x)) (same (place_name q) (place_name p)))
     ∙ or_assoc (same (place_name q) (place_name p)) (same (place_name q) (place_name x)) (is_among xs q)
+
+-- a set with one more place has those of the list with that place at its end
+pub same_last : (seen more ps : List Place) (p : Place) → HaveSame seen ps → HaveSame more (p ∷ seen) → HaveSame more (ps ++ p ∷ [])
+same_last seen more ps p has is = record { each = λ q. is.each q ∙ ap (λ b. same (place_name q) (place_name p) || b) (has.each q) ∙ sym (among_last q ps p) }
 
 -- each the first time only, behind those that were gathered
 abbrev Gathers : List Place → List Place → List Place → Type 0

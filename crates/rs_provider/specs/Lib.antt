@@ -1,5 +1,11 @@
+pub mod Begun
+pub mod Counts
 pub mod Each
+pub mod Fitting
 pub mod Kept
 pub mod Naming
+pub mod Readied
 pub mod Rests
+pub mod Searches
 pub mod Shared
+pub mod Walks

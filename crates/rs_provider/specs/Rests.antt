@@ -2,7 +2,7 @@
 use Rattle.std.specs.Prelude.{ℕ, Bool, true, not, List, [], ◌∷◌, ◌++◌, length, Option, Some, None, if◌then◌else◌}
 use Rattle.std.proofs.Common.{zero, suc}
 use Rattle.std.specs.List.{list_any}
-use Rattle.inc_query.specs.Plans.{Known, Plan, Give, Need}
+use Rattle.inc_query.specs.Plans.{Plan, Give, Need}
 use Rattle.inc_query.specs.declared.answer.Answer.{Answer}
 use Rattle.inc_query.specs.declared.answer.Answer.TheVariants.{Read, Value}
 use Rattle.inc_query.specs.declared.query.Query.{Query}
@@ -18,22 +18,20 @@ use Rattle.rs_text.specs.Text.{text_of}
 use Rattle.rs_forms.specs.Forms.{ir_form, sig_form}
 use Rattle.rs_answers.specs.Forms.{const_form, diags_form, places_form}
 use Rattle.rs_lookup.specs.Places.{place_name}
-use Rattle.rs_reach.specs.Dead.{dead_of}
 use Rattle.rs_check.specs.Items.{item_wrongs, lines}
 use Rattle.rs_const.specs.Constants.{Entry}
 use Rattle.rs_lower.specs.Lowered.{lowered}
-use Rattle.rs_units.specs.Members.{members_of, wanted_of}
 use Rattle.rs_object.specs.Forms.{object_form}
 use Rattle.rs_emit.specs.Objects.{object_of}
-use Rattle.rs_plans.specs.Plans.{Use, answers, ask_constants, calls_by, check_from, const_at, const_from, constants_in, consts_used, entry, first_new, index_plan, ir_from, is_constant, is_wrong, item_value, sig_by, sigs_used, use_in, use_query, wanted_from_main}
+use Rattle.rs_plans.specs.Plans.{Use, answers, ask_constants, calls_by, check_from, const_at, const_from, constants_in, consts_used, entry, first_new, index_plan, ir_from, is_constant, is_wrong, item_value, sig_by, sigs_used, use_in, use_query}
 use Rattle.rs_plans.specs.Readings.{const_in, index_in, ir_in, item_in, places_in, sig_in}
 use Rattle.rs_plans.specs.Steps.{ask, ask_calls, ask_each, query, whole}
 use Rattle.rs_provider.specs.Each.{each_left}
+use Rattle.rs_provider.specs.Searches.{found_by, wanted_by}
 use Rattle.rs_provider.specs.declared.state.Aim.{Aim}
 use Rattle.rs_provider.specs.declared.state.Aim.TheVariants as aim
 use Rattle.rs_provider.specs.declared.state.Resolved.{Resolved}
 use Rattle.rs_provider.specs.declared.state.Search.{Search}
-use Rattle.rs_provider.specs.declared.state.Search.TheVariants as search
 use Rattle.rs_provider.specs.declared.state.State.{State}
 use Rattle.rs_provider.specs.declared.state.State.TheVariants as state
 
@@ -46,11 +44,6 @@ answer_of (Need q more) = Read q
 abbrev pub after : Plan → List ℕ → Plan
 after (Give w) v = Give w
 after (Need q more) v = more v
-
--- and after these
-abbrev pub after_all : Plan → Known → Plan
-after_all plan [] = plan
-after_all plan (x ∷ xs) = after_all (after plan x.1) xs
 
 -- ---- What follows the item, and the index.
 
@@ -74,19 +67,6 @@ abbrev pub from_item : Aim → Place → Item → Plan
 from_item aim at item = if is_made aim (is_constant (definition item.body)) then resolving aim at item else Give []
 
 -- ---- Searches.
-
-abbrev pub wanted_by : Search → Index → List (Place × List Place) → Option Place
-wanted_by search.Dead index calls = wanted_from_main index calls
-wanted_by (search.Members unit) index calls = wanted_of unit index.items calls
-
--- while one more may be asked for
-abbrev pub next_by : Search → Index → List (Place × List Place) → ℕ → Option Place
-next_by search index calls zero = None
-next_by search index calls (suc n) = wanted_by search index calls
-
-abbrev pub found_by : Search → Index → List (Place × List Place) → List Place
-found_by search.Dead index calls = dead_of index.items calls
-found_by (search.Members unit) index calls = members_of unit index.items calls
 
 abbrev pub searching : Search → Index → List (Place × List Place) → ℕ → Plan
 searching search index calls left = ask_calls left (wanted_by search index) calls (λ known. Give (places_form (found_by search index known)))

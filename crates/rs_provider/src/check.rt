@@ -16,8 +16,9 @@ use crate::sig::is_constant;
 use crate::state::{Checking, Resolved, State, Valuing};
 use inc_base::{Bytes, List, Memory};
 use rs_answers::diags_bytes;
-use rs_check::check_item;
+use rs_check::check_in;
 use rs_tree::{Const, Diag, Place, Sig};
+use rs_types::Sigs;
 
 /// The check of an item, which begins with the signatures of the items that its paths lead to.
 pub(crate) fn check_of(of: Resolved) -> Result<State, Memory>
@@ -76,12 +77,16 @@ pub(crate) fn wrongs(
 ) -> Result<List<Diag>, Memory>
     ensures { IfOk result (λ ds. ds ≡ wrongs_by of.now sigs.now value) }
 {
-    check_item(
+    let alloc = of.found.allocator();
+    let names = of.index.as_ref().names();
+    let sigs = Sigs::new(alloc, sigs.as_slice())?;
+    check_in(
+        alloc,
         of.item.as_ref(),
         of.at.module.as_slice(),
-        of.index.as_ref(),
-        &of.found,
-        sigs,
+        &names,
+        of.found.as_slice(),
+        &sigs,
         value,
     )
 }

@@ -7,15 +7,17 @@ ghost use Rattle.rs_reach.specs.Calls.{with_item};
 ghost use Rattle.rs_provider.specs.Rests.{after, next_constant, rest, settled, settling};
 ghost use Rattle.rs_provider.specs.declared.state.State.TheVariants as state;
 
+use crate::desk::Desk;
+use crate::indexed::Indexed;
+use crate::known::Known;
 use crate::left::Left;
-use crate::reading::item_read;
 use crate::state::{Resolved, Settling, State};
+use crate::subject::answers;
 use crate::using::is_constant_at;
 use crate::worth::value_of;
 use inc_base::{Bytes, Copied, List, Memory};
 use rs_const::Entry;
-use rs_names::resolve_item;
-use rs_tree::{Found, Index, Item, Place};
+use rs_tree::{Found, Item, Place};
 use std::rc::Rc;
 
 /// The value of a constant, which begins with its item and the constants that it names.
@@ -35,7 +37,7 @@ pub(crate) fn const_of(of: Resolved) -> Result<State, Memory>
                 Err(refused)
             }
             Ok(known) => {
-                let left = of.index.as_ref().items.len();
+                let left = of.index.as_ref().index().items.len();
                 let Resolved {
                     at,
                     item,
@@ -57,12 +59,11 @@ fn named(of: &Resolved) -> Result<Left, Memory>
     Left::of(constants)
 }
 
-fn begun(of: &Resolved) -> Result<List<Entry>, Memory>
+fn begun(of: &Resolved) -> Result<Known, Memory>
     ensures { IfOk result (λ known. known ≡ (of.now.at, of.now.item.value, of.now.found) ∷ []) }
 {
-    let mut known = List::new(of.found.allocator());
-    known.push(entry(of)?)?;
-    Ok(known)
+    let entry = entry(of)?;
+    Known::new(of.found.allocator()).with(entry)
 }
 
 fn entry(of: &Resolved) -> Result<Entry, Memory>
@@ -75,17 +76,17 @@ fn entry(of: &Resolved) -> Result<Entry, Memory>
 }
 
 // The constants that these lead to, in order.
-fn constants_in(index: &Index, found: &[Found]) -> Result<List<Place>, Memory>
+fn constants_in(index: &Indexed, found: &[Found]) -> Result<List<Place>, Memory>
     ensures { IfOk result (λ places. places ≡ constants_in index.now found.now) }
 {
-    let mut places = List::new(index.items.allocator());
+    let mut places = List::new(index.index().items.allocator());
     for one in found {
         push_constant(&mut places, index, one)?;
     }
     Ok(places)
 }
 
-fn push_constant(places: &mut List<Place>, index: &Index, found: &Found) -> Result<(), Memory>
+fn push_constant(places: &mut List<Place>, index: &Indexed, found: &Found) -> Result<(), Memory>
     ensures { OnOk result (places.new ≡ places.old ++ filter (is_constant_at index.now) (with_item found.now [])) }
 {
     match found {
@@ -102,7 +103,7 @@ fn push_constant(places: &mut List<Place>, index: &Index, found: &Found) -> Resu
 }
 
 // The first of those left that isn't known, where one more may be asked for.
-fn next(known: &[Entry], more: &mut Left, left: usize) -> Option<Place>
+fn next(known: &Known, more: &mut Left, left: usize) -> Option<Place>
     ensures { option_map (λ p. (p, more.new)) result ≡ next_constant known.now more.old left }
 {
     if left == 0 {
@@ -113,15 +114,15 @@ fn next(known: &[Entry], more: &mut Left, left: usize) -> Option<Place>
 
 fn settling(
     at: Place,
-    index: Rc<Index>,
-    known: List<Entry>,
+    index: Rc<Indexed>,
+    known: Known,
     more: Left,
     left: usize,
 ) -> Result<State, Memory>
     ensures { IfOk result (λ s. rest s ≡ settling at index.value known more left) }
 {
     let mut more = more;
-    match next(known.as_slice(), &mut more, left) {
+    match next(&known, &mut more, left) {
         Some(next) => Ok(State::Const(Settling {
             at,
             index,
@@ -143,10 +144,10 @@ fn settling(
 
 impl Settling {
     /// With the item that a value is.
-    pub(crate) fn fed(self, value: &Bytes) -> Result<State, Memory>
+    pub(crate) fn fed(self, desk: &Desk, value: &Bytes) -> Result<State, Memory>
         ensures { IfOk result (λ s. rest s ≡ after (rest (state.Const self)) value.now) }
     {
-        match item_read(value) {
+        match desk.item(&self.next, value) {
             Err(refused) => {
                 drop(self);
                 Err(refused)
@@ -155,14 +156,24 @@ impl Settling {
                 drop(self);
                 Ok(State::Done(Bytes::new(value.allocator())))
             }
-            Ok(Some(item)) => self.read(item),
+            Ok(Some(item)) => match item.as_ref().copy() {
+                Err(refused) => {
+                    drop(self);
+                    drop(item);
+                    Err(refused)
+                }
+                Ok(copy) => {
+                    drop(item);
+                    self.read(copy)
+                }
+            },
         }
     }
 
     fn read(self, item: Item) -> Result<State, Memory>
         ensures { IfOk result (λ s. rest s ≡ settled self.at self.index.value self.known self.next self.more self.left item) }
     {
-        match resolve_item(&item, self.next.module.as_slice(), self.index.as_ref()) {
+        match answers(&self.next, &item, self.index.as_ref()) {
             Err(refused) => {
                 drop(self);
                 drop(item);
@@ -191,18 +202,16 @@ impl Settling {
             more,
             left,
         } = self;
-        let mut known = known;
         let mut more = more;
-        match known.push((next, item, found)) {
+        match known.with((next, item, found)) {
             Err(refused) => {
                 drop(at);
                 drop(index);
-                drop(known);
                 drop(more);
                 drop(constants);
                 Err(refused)
             }
-            Ok(()) => match more.put_front(constants) {
+            Ok(known) => match more.put_front(constants) {
                 Err(refused) => {
                     drop(at);
                     drop(index);

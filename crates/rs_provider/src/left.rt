@@ -1,12 +1,10 @@
 ghost use Rattle.std.specs.Prelude.{◌≡◌, ◌++◌, ◌∷◌, [], IfOk, OnOk};
 ghost use Rattle.std.specs.Option.{option_map};
 ghost use Rattle.rs_plans.specs.Plans.{first_new};
-ghost use Rattle.rs_provider.specs.Naming.{is_known};
 ghost use Rattle.rs_provider.specs.Each.{taken_of};
 
-use crate::names::is_same;
+use crate::known::Known;
 use inc_base::{List, Memory};
-use rs_const::Entry;
 use rs_tree::Place;
 use std::alloc::Global;
 use std::collections::VecDeque;
@@ -79,7 +77,7 @@ impl Left {
     }
 
     /// Takes the first that isn't known, and those before it.
-    pub(crate) fn next_new(&mut self, known: &[Entry]) -> Option<Place>
+    pub(crate) fn next_new(&mut self, known: &Known) -> Option<Place>
         ensures { option_map (λ p. (p, self.new)) result ≡ first_new known.now self.old }
     {
         next_new(&mut self.places, known)
@@ -96,19 +94,13 @@ fn put_front(to: &mut VecDeque<Place>, places: Vec<Place>) -> Result<(), Memory>
     Ok(())
 }
 
-fn next_new(places: &mut VecDeque<Place>, known: &[Entry]) -> Option<Place>
+fn next_new(places: &mut VecDeque<Place>, known: &Known) -> Option<Place>
     ensures { option_map (λ p. (p, places.new.items)) result ≡ first_new known.now places.old.items }
 {
     while let Some(place) = places.pop_front() {
-        if !is_known(known, &place) {
+        if !known.has(&place) {
             return Some(place);
         }
     }
     None
-}
-
-fn is_known(known: &[Entry], place: &Place) -> bool
-    ensures { result ≡ is_known known.now place.now }
-{
-    known.iter().any(|entry| is_same(place, &entry.0))
 }

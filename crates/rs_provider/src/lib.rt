@@ -7,26 +7,36 @@
 
 mod answering;
 mod beginning;
+mod begun;
 mod check;
 mod constants;
 mod desk;
 mod each;
 mod feeding;
 mod form;
-mod from_main;
+mod indexed;
+mod items;
 mod kept;
+mod known;
+mod labels;
+mod lasts;
 mod left;
 mod names;
 mod naming;
 mod object;
 mod provider;
+mod readied;
 mod reading;
+mod resuming;
 mod search;
+mod seeking;
+mod seen;
 mod sig;
 mod state;
 mod subject;
 mod text;
 mod using;
+mod walk;
 mod worth;
 
 pub use provider::Rust;

@@ -1,13 +1,12 @@
 //! The items that paths lead to.
 
-ghost use Rattle.std.specs.Prelude.{◌≡◌, IfOk, OnOk, if◌then◌else◌, ◌++◌, ◌∷◌, []};
-ghost use Rattle.rs_plans.specs.Names.{is_among};
+ghost use Rattle.std.specs.Prelude.{◌≡◌, IfOk, OnOk, []};
 ghost use Rattle.rs_plans.specs.Plans.{named_items};
 ghost use Rattle.rs_reach.specs.Calls.{with_item};
-ghost use Rattle.rs_provider.specs.Naming.{with_new};
+ghost use Rattle.rs_provider.specs.Naming.{HaveSame, with_new};
 
 use crate::left::Left;
-use crate::names::is_among;
+use crate::seen::Seen;
 use inc_base::{Copied, List, Memory};
 use rs_tree::{Found, Place};
 use std::alloc::Global;
@@ -23,19 +22,22 @@ pub(crate) fn named_items(found: &List<Found>) -> Result<Left, Memory>
 fn named_places(alloc: Global, found: &[Found]) -> Result<List<Place>, Memory>
     ensures { IfOk result (λ places. places ≡ named_items found.now) }
 {
+    let mut seen = Seen::new(alloc);
     let mut places = List::new(alloc);
     for one in found {
-        push_new(&mut places, one)?;
+        push_new(&mut seen, &mut places, one)?;
     }
     Ok(places)
 }
 
-fn push_new(places: &mut List<Place>, found: &Found) -> Result<(), Memory>
-    ensures { OnOk result (places.new ≡ with_new places.old (with_item found.now [])) }
+fn push_new(seen: &mut Seen, places: &mut List<Place>, found: &Found) -> Result<(), Memory>
+    requires { HaveSame seen.old places.old }
+    ensures places { OnOk result (places.new ≡ with_new places.old (with_item found.now [])) }
+    ensures seen { OnOk result (HaveSame seen.new places.new) }
 {
     match found {
         Found::Item(place) => {
-            if is_among(places.as_slice(), place) {
+            if !seen.add(place)? {
                 return Ok(());
             }
             places.push(place.copy()?)

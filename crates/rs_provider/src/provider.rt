@@ -1,22 +1,27 @@
 ghost use Rattle.std.specs.Prelude.{◌≡◌, ◌∷◌, ◌==◌, [], ℕ, IfOk};
 ghost use Rattle.inc_query.specs.Plans.{follow};
 ghost use Rattle.rs_plans.specs.Plans.{plan_of};
+ghost use Rattle.rs_queries.specs.Reading.{IsReading};
 ghost use Rattle.rs_provider.specs.Kept.{is_counted};
-ghost use Rattle.rs_provider.specs.Rests.{after_all, answer_of, rest};
 
 use crate::desk::Desk;
-use crate::state::State;
+use crate::lasts::Lasts;
+use crate::resuming::{fed_all, resumed};
 use inc_base::{Bytes, Compiler, Copied, List, Memory, Meter};
 use inc_query::{Answer, Providers, Query, tick_raises};
+use rs_queries::Reading;
+use std::rc::Rc;
 
 /// The compiler's queries of a text: what each reads, in order, and its value, by a compiler (docs/FORMATS.md, "Queries").
 ///
-/// Where a value that is read isn't in its form, the query's value is nothing. It keeps what it read last of a text and of an index.
+/// Where a value that is read isn't in its form, the query's value is nothing. It keeps what it read last of a text and of an index, the items, and
+/// the queries that were asked last (docs/ARCHITECTURE.md, "How a query runs").
 #[derive(Drop)]
 pub struct Rust {
     pub text: Bytes,
     pub compiler: Compiler,
     desk: Desk,
+    lasts: Lasts,
 }
 
 impl Rust {
@@ -25,45 +30,47 @@ impl Rust {
         ensures text { result.text ≡ text }
         ensures compiler { result.compiler ≡ compiler }
     {
+        let desk = Desk::new(text.allocator());
         Rust {
             text,
             compiler,
-            desk: Desk::new(),
+            desk,
+            lasts: Lasts::new(),
         }
     }
-}
 
-/// Where a query stands after these reads.
-fn after_reads(
-    desk: &Desk,
-    level: u8,
-    q: &Query,
-    known: &List<(Query, Bytes)>,
-) -> Result<State, Memory>
-    ensures { IfOk result (λ s. (version : ℕ) → rest s ≡ after_all (plan_of (version ∷ level ∷ []) q.now) known.now) }
-{
-    let state = State::start(known.allocator(), level, q)?;
-    fed_all(desk, state, known.as_slice())
-}
-
-fn fed_all(desk: &Desk, state: State, known: &[(Query, Bytes)]) -> Result<State, Memory>
-    ensures { IfOk result (λ s. rest s ≡ after_all (rest state) known.now) }
-{
-    let mut state = state;
-    for (_, value) in known {
-        state = state.fed(desk, value)?;
+    /// The queries of a text that was read already and isn't read again, by this compiler. `Memory` where there is none to keep it.
+    pub fn of_reading(text: Bytes, compiler: Compiler, reading: Rc<Reading>) -> Result<Rust, Memory>
+        requires { IsReading text reading.value }
+        ensures text { IfOk result (λ r. r.text ≡ text) }
+        ensures compiler { IfOk result (λ r. r.compiler ≡ compiler) }
+    {
+        match Desk::of_reading(&text, reading) {
+            Ok(desk) => Ok(Rust {
+                text,
+                compiler,
+                desk,
+                lasts: Lasts::new(),
+            }),
+            Err(refused) => {
+                drop(text);
+                drop(compiler);
+                Err(refused)
+            }
+        }
     }
-    Ok(state)
-}
 
-/// What a query of a kind above 0 says after these reads.
-fn said(desk: &Desk, level: u8, q: &Query, known: &List<(Query, Bytes)>) -> Result<Answer, Memory>
-    ensures { IfOk result (λ a. (version : ℕ) → a ≡ follow (plan_of (version ∷ level ∷ []) q.now) known.now) }
-{
-    let state = after_reads(desk, level, q, known)?;
-    let answer = state.answer(known.allocator());
-    drop(state);
-    answer
+    /// What a query of a kind above 0 says after these reads.
+    fn said(&self, q: &Query, known: &List<(Query, Bytes)>) -> Result<Answer, Memory>
+        ensures { IfOk result (λ a. a ≡ follow (plan_of (self.now.compiler.version ∷ self.now.compiler.level ∷ []) q.now) known.now) }
+    {
+        let kept = self.lasts.take(q.kind);
+        let begun = resumed(kept, self.compiler.level, q, known)?;
+        let begun = fed_all(&self.desk, begun, known.as_slice())?;
+        let answer = begun.state.answer(known.allocator());
+        self.lasts.keep(begun);
+        answer
+    }
 }
 
 impl Providers for Rust {
@@ -105,7 +112,7 @@ impl Providers for Rust {
         if q.kind == 0 {
             return Ok(Answer::Value(self.text.copy()?));
         }
-        let answer = said(&self.desk, self.compiler.level, q, known)?;
+        let answer = self.said(q, known)?;
         if is_counted(q, &answer) {
             tick_raises(meter);
             meter.tick();

@@ -10,8 +10,10 @@ ghost use Rattle.std.specs.declared.rc.Rc.{Rc};
 ghost use Rattle.std.specs.declared.alloc.Global.{Global};
 ghost use Rattle.rs_provider.specs.Shared.{shared};
 
+use crate::indexed::Indexed;
 use crate::kept::ReadIndex;
-use crate::names::{are_places, has_labels, is_index};
+use crate::labels::has_labels;
+use crate::names::{are_places, is_index};
 use inc_base::{Bytes, Copied, List, Memory};
 use rs_answers::{read_const, read_places};
 use rs_forms::{read_index, read_ir, read_item, read_sig};
@@ -49,7 +51,7 @@ pub(crate) fn index_read(value: &Bytes) -> Result<Option<ReadIndex>, Memory>
         None => Ok(None),
         Some(index) => {
             if is_index(&index) {
-                let index = share(alloc, index)?;
+                let index = share(alloc, Indexed::of(index)?)?;
                 let bytes = value.copy()?;
                 Ok(Some(ReadIndex { bytes, index }))
             } else {
@@ -68,11 +70,16 @@ pub fn places_in(value: &Bytes) -> Result<Option<List<Place>>, Memory>
     match read_places(value.allocator(), value.as_slice())? {
         None => Ok(None),
         Some(places) => {
-            if are_places(places.as_slice()) {
-                Ok(Some(places))
-            } else {
-                drop(places);
-                Ok(None)
+            match are_places(&places) {
+                Ok(true) => Ok(Some(places)),
+                Ok(false) => {
+                    drop(places);
+                    Ok(None)
+                }
+                Err(refused) => {
+                    drop(places);
+                    Err(refused)
+                }
             }
         }
     }
@@ -97,11 +104,16 @@ pub(crate) fn ir_in(value: &Bytes) -> Result<Option<Ir>, Memory>
     match read_ir(value.allocator(), value.as_slice())? {
         None => Ok(None),
         Some(ir) => {
-            if has_labels(&ir) {
-                Ok(Some(ir))
-            } else {
-                drop(ir);
-                Ok(None)
+            match has_labels(&ir) {
+                Ok(true) => Ok(Some(ir)),
+                Ok(false) => {
+                    drop(ir);
+                    Ok(None)
+                }
+                Err(refused) => {
+                    drop(ir);
+                    Err(refused)
+                }
             }
         }
     }

@@ -9,7 +9,7 @@ ghost use Rattle.rs_tree.specs.Plain.{definition};
 ghost use Rattle.rs_provider.specs.Rests.{after, rest};
 ghost use Rattle.rs_provider.specs.declared.state.State.TheVariants as state;
 
-use crate::reading::item_in;
+use crate::desk::Desk;
 use crate::state::State;
 use inc_base::{Bytes, List, Memory};
 use rs_forms::sig_bytes;
@@ -17,10 +17,10 @@ use rs_tree::{Body, Item, Param, Place, Sig, Typ};
 use std::alloc::Global;
 
 /// The signature of the item that a value is.
-pub(crate) fn sig_fed(at: Place, value: &Bytes) -> Result<State, Memory>
+pub(crate) fn sig_fed(desk: &Desk, at: Place, value: &Bytes) -> Result<State, Memory>
     ensures { IfOk result (λ s. rest s ≡ after (rest (state.Sig at)) value.now) }
 {
-    match item_in(value) {
+    match desk.item(&at, value) {
         Err(refused) => {
             drop(at);
             Err(refused)

@@ -1,11 +1,15 @@
 //! Where a query on its way stands.
 
+ghost use Rattle.rs_provider.specs.Searches.{IsAsking};
+
 use crate::each::Each;
+use crate::indexed::Indexed;
+use crate::known::Known;
 use crate::left::Left;
 use crate::using::Use;
+use crate::walk::Walk;
 use inc_base::{Bytes, List};
-use rs_const::Entry;
-use rs_tree::{Found, Index, Ir, Item, Place, Sig};
+use rs_tree::{Found, Ir, Item, Place, Sig};
 use std::rc::Rc;
 
 /// What is made of an item and of what its paths lead to.
@@ -43,26 +47,29 @@ pub struct Subject {
 pub struct Resolved {
     pub at: Place,
     pub item: Rc<Item>,
-    pub index: Rc<Index>,
+    pub index: Rc<Indexed>,
     pub found: List<Found>,
 }
 
-/// A search: the calls that are known, the function whose calls are wanted, and how many more may be asked for.
+/// A search: the calls that are known, how far it has come by them, the function whose calls are wanted, and how many more
+/// may be asked for.
 #[derive(Drop)]
 pub struct Calling {
     pub search: Search,
-    pub index: Rc<Index>,
+    pub index: Rc<Indexed>,
     pub calls: List<(Place, List<Place>)>,
+    pub walk: Walk,
     pub wanted: Place,
     pub left: usize,
+    pub ghost is: { ∥ IsAsking search index.value calls walk wanted ∥₁ },
 }
 
 /// A constant: those that it reaches and that are known, the next, those that are left, and how many more may be asked for.
 #[derive(Drop)]
 pub struct Settling {
     pub at: Place,
-    pub index: Rc<Index>,
-    pub known: List<Entry>,
+    pub index: Rc<Indexed>,
+    pub known: Known,
     pub next: Place,
     pub more: Left,
     pub left: usize,

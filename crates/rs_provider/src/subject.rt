@@ -11,22 +11,21 @@ use crate::check::check_of;
 use crate::constants::const_of;
 use crate::desk::Desk;
 use crate::form::form_of;
-use crate::reading::item_in;
+use crate::indexed::Indexed;
 use crate::sig::is_constant;
 use crate::state::{Aim, Resolved, State, Subject};
 use inc_base::{Bytes, List, Memory};
 use rs_answers::places_bytes;
-use rs_names::resolve_item;
-use rs_reach::calls_of;
-use rs_tree::{Found, Index, Item, Place};
+use rs_names::resolve_in;
+use rs_tree::{Found, Item, Place};
 use std::alloc::Global;
 use std::rc::Rc;
 
 /// What is made of the item that a value is.
-pub(crate) fn subject_fed(at: Place, aim: Aim, value: &Bytes) -> Result<State, Memory>
+pub(crate) fn subject_fed(desk: &Desk, at: Place, aim: Aim, value: &Bytes) -> Result<State, Memory>
     ensures { IfOk result (λ s. rest s ≡ after (rest (state.Subject at aim)) value.now) }
 {
-    match item_in(value) {
+    match desk.item(&at, value) {
         Err(refused) => {
             drop(at);
             Err(refused)
@@ -79,7 +78,7 @@ impl Subject {
         }
     }
 
-    fn resolved(self, index: Rc<Index>) -> Result<State, Memory>
+    fn resolved(self, index: Rc<Indexed>) -> Result<State, Memory>
         ensures { IfOk result (λ s. rest s ≡ from_index self.aim self.at self.item.value index.value) }
     {
         match answers(&self.at, self.item.as_ref(), index.as_ref()) {
@@ -102,11 +101,12 @@ impl Subject {
     }
 }
 
-// What the paths of an item lead to.
-fn answers(at: &Place, item: &Item, index: &Index) -> Result<List<Found>, Memory>
+/// What the paths of an item lead to.
+pub(crate) fn answers(at: &Place, item: &Item, index: &Indexed) -> Result<List<Found>, Memory>
     ensures { IfOk result (λ fs. fs ≡ answers index.now at.now item.now) }
 {
-    resolve_item(item, at.module.as_slice(), index)
+    let names = index.names();
+    resolve_in(item.tokens.allocator(), item, at.module.as_slice(), &names)
 }
 
 impl Resolved {
@@ -126,7 +126,9 @@ impl Resolved {
         requires { self.now.found ≡ answers self.now.index.value self.now.at self.now.item.value }
         ensures { IfOk result (λ v. v ≡ places_form (calls_by self.now.at self.now.item.value self.now.index.value)) }
     {
-        let places = calls_of(self.item.as_ref(), &self.found, self.index.as_ref())?;
+        let callees = self.index.as_ref().callees()?;
+        let alloc = self.found.allocator();
+        let places = callees.calls_of(alloc, self.item.as_ref(), self.found.as_slice())?;
         places_bytes(&places)
     }
 }

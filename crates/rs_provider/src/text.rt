@@ -1,19 +1,19 @@
 //! What a text gives: its index or its fault, and its items.
 
 ghost use Rattle.std.specs.Prelude.{◌≡◌, [], IfOk};
-ghost use Rattle.std.specs.Option.{option_copied};
-ghost use Rattle.rs_lookup.specs.Places.{place_name, same};
-ghost use Rattle.rs_plans.specs.Plans.{fault_at, index_by, index_fault, item_in_place, item_value};
+ghost use Rattle.rs_lookup.specs.Places.{place_name};
+ghost use Rattle.rs_plans.specs.Plans.{fault_at, index_by, index_fault, item_value};
 ghost use Rattle.rs_queries.specs.Reading.{what_was_read};
 ghost use Rattle.rs_text.specs.Text.{text_of};
 
 use crate::desk::Desk;
+use crate::readied::Readied;
 use inc_base::{Bytes, Copied, Memory};
 use rs_forms::{fault_bytes, index_bytes, item_bytes};
 use rs_names::index;
 use rs_queries::Reading;
 use rs_text::TextFault;
-use rs_tree::{At, IndexFault, Item, Place, Placed};
+use rs_tree::{At, IndexFault, Place};
 use std::alloc::Global;
 
 /// The index of a text, or its fault.
@@ -21,7 +21,7 @@ pub(crate) fn index_value(desk: &Desk, text: &Bytes) -> Result<Bytes, Memory>
     ensures { IfOk result (λ v. v ≡ index_by (text_of text.now)) }
 {
     let read = desk.text(text)?;
-    index_read(text.allocator(), &read.as_ref().reading)
+    index_read(text.allocator(), read.as_ref().reading())
 }
 
 fn index_read(alloc: Global, reading: &Reading) -> Result<Bytes, Memory>
@@ -74,35 +74,15 @@ pub(crate) fn item_value(desk: &Desk, at: &Place, text: &Bytes) -> Result<Bytes,
     ensures { IfOk result (λ v. v ≡ item_value (place_name at.now) (text_of text.now)) }
 {
     let read = desk.text(text)?;
-    item_found(text.allocator(), at, &read.as_ref().reading)
+    item_found(text.allocator(), at, read.as_ref())
 }
 
-fn item_found(alloc: Global, at: &Place, reading: &Reading) -> Result<Bytes, Memory>
+#[tactic(auto, using(crate::proofs::Placing::value_read))]
+fn item_found(alloc: Global, at: &Place, reading: &Readied) -> Result<Bytes, Memory>
     ensures { IfOk result (λ v. v ≡ item_value (place_name at.now) (what_was_read reading.now)) }
 {
-    match reading {
-        Reading::Tree(tree) => match item_in_place(at, tree.items.as_slice()) {
-            Some(item) => item_bytes(item),
-            None => Ok(Bytes::new(alloc)),
-        },
-        Reading::Fault(_) => Ok(Bytes::new(alloc)),
+    match reading.item(at) {
+        Some(item) => item_bytes(item),
+        None => Ok(Bytes::new(alloc)),
     }
-}
-
-fn item_in_place<'a>(at: &Place, items: &'a [Placed]) -> Option<&'a Item>
-    ensures { option_copied result ≡ item_in_place (place_name at.now) items.now }
-{
-    for placed in items {
-        if is_at(at, placed) {
-            return Some(&placed.item);
-        }
-    }
-    None
-}
-
-fn is_at(at: &Place, placed: &Placed) -> bool
-    ensures { result ≡ same (place_name at.now) (placed.now.module, placed.now.item.name) }
-{
-    at.module.as_slice() == placed.module.as_slice()
-        && at.name.as_slice() == placed.item.name.as_slice()
 }

@@ -1,22 +1,21 @@
 //! What a function's form needs to know of an item that it names.
 
 ghost use Rattle.std.specs.Prelude.{◌≡◌, None, IfOk, option_and_then};
-ghost use Rattle.std.specs.Option.{option_copied, option_map};
-ghost use Rattle.rs_lookup.specs.Places.{item_name, place_name, same};
-ghost use Rattle.rs_names.specs.Resolved.{item_at};
+ghost use Rattle.std.specs.Option.{option_map};
 ghost use Rattle.rs_plans.specs.Plans.{constant_use, is_constant_at, is_public_at, typ_of, use_in};
 ghost use Rattle.rs_plans.specs.Readings.{const_in, sig_in};
 
+use crate::indexed::Indexed;
 use crate::reading::{const_in, sig_in};
 use inc_base::{Bytes, List, Memory};
-use rs_tree::{Const, Index, IndexItem, Place, Sig, Typ};
+use rs_tree::{Const, Place, Sig, Typ};
 use std::alloc::Global;
 
 /// A signature, and the value of a constant.
 pub type Use = (Sig, Option<Const>);
 
 /// What a value says of an item: the value of a constant of the index, the signature of another.
-pub(crate) fn use_in(index: &Index, at: &Place, value: &Bytes) -> Result<Option<Use>, Memory>
+pub(crate) fn use_in(index: &Indexed, at: &Place, value: &Bytes) -> Result<Option<Use>, Memory>
     ensures { IfOk result (λ o. o ≡ use_in index.now at.now value.now) }
 {
     if is_constant_at(index, at) {
@@ -75,37 +74,20 @@ fn typ_of(value: Const) -> Option<Typ>
 }
 
 /// Whether the item at a place is a constant, by the index.
-pub(crate) fn is_constant_at(index: &Index, at: &Place) -> bool
+pub(crate) fn is_constant_at(index: &Indexed, at: &Place) -> bool
     ensures { result ≡ is_constant_at index.now at.now }
 {
-    match item_at(at, index.items.as_slice()) {
+    match index.item(at) {
         None => false,
         Some(item) => item.kind == 0,
     }
 }
 
-fn is_public_at(index: &Index, at: &Place) -> bool
+fn is_public_at(index: &Indexed, at: &Place) -> bool
     ensures { result ≡ is_public_at index.now at.now }
 {
-    match item_at(at, index.items.as_slice()) {
+    match index.item(at) {
         None => false,
         Some(item) => item.public,
     }
-}
-
-fn item_at<'a>(at: &Place, items: &'a [IndexItem]) -> Option<&'a IndexItem>
-    ensures { option_copied result ≡ item_at (place_name at.now) items.now }
-{
-    for item in items {
-        if is_at(at, item) {
-            return Some(item);
-        }
-    }
-    None
-}
-
-fn is_at(at: &Place, item: &IndexItem) -> bool
-    ensures { result ≡ same (place_name at.now) (item_name item.now) }
-{
-    at.module.as_slice() == item.module.as_slice() && at.name.as_slice() == item.name.as_slice()
 }

@@ -7,4 +7,4 @@ use Rattle.rs_provider.proofs.naming.named_places.Goals as goal
 
 pub returns : goal.returns
 returns c =
-    sym (at_drop_all (λ xs. with_new c.loop-one.places (places_found xs)) c.args.found.now c.loop-one.one-index (omega arith)) ∙ c.loop-one.invariant ∙ gathered_once (places_found c.args.found.now)
+    sym (at_drop_all (λ xs. with_new c.loop-one.places (places_found xs)) c.args.found.now c.loop-one.one-index (omega arith)) ∙ c.loop-one.invariant.0 ∙ gathered_once (places_found c.args.found.now)

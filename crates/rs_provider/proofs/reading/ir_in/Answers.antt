@@ -6,12 +6,12 @@ use Rattle.rs_provider.proofs.reading.ir_in.Goals as goal
 pub returns-in-None : goal.returns-in-None
 returns-in-None c = ap (passed has_labels) (sym c.in-None.is) ∙ ir_read c.args.value.now _ (rw c.as_slice.ensures.value at c.in_ok-read_ir.ensures)
 
-pub returns-then-has_labels : goal.returns-then-has_labels
-returns-then-has_labels c =
-    sym (passes has_labels c.in-Some.ir (sym c.has_labels.ensures ∙ c.if-has_labels.true))
+pub returns-in-Ok-true : goal.returns-in-Ok-true
+returns-in-Ok-true c =
+    sym (passes has_labels c.in-Some.ir (sym (c.in-Ok-true.ensures {u = tt}) ∙ c.in-Ok-true.field-0-test))
     ∙ ap (passed has_labels) (sym c.in-Some.is) ∙ ir_read c.args.value.now _ (rw c.as_slice.ensures.value at c.in_ok-read_ir.ensures)
 
-pub returns-else-has_labels : goal.returns-else-has_labels
-returns-else-has_labels c =
-    sym (refused has_labels c.in-Some.ir (sym c.has_labels.ensures ∙ c.if-has_labels.false))
+pub returns-in-Ok-false : goal.returns-in-Ok-false
+returns-in-Ok-false c =
+    sym (refused has_labels c.in-Some.ir (sym (c.in-Ok-false.ensures {u = tt}) ∙ c.in-Ok-false.field-0-test))
     ∙ ap (passed has_labels) (sym c.in-Some.is) ∙ ir_read c.args.value.now _ (rw c.as_slice.ensures.value at c.in_ok-read_ir.ensures)

@@ -1,5 +1,5 @@
 -- What is compiled of a tree is put together from the values of its roots.
-use Rattle.std.proofs.Common.{◌≡◌, ℕ, Bool, true, false, List, [], ◌∷◌, ◌++◌, length, drop, map, Option, Some, None, sym, ap, ◌∙◌, subst, if◌then◌else◌, IfOk, IfSome, OnOk, Result, Ok, Err}
+use Rattle.std.proofs.Common.{◌≡◌, ℕ, Bool, true, false, List, [], ◌∷◌, ◌++◌, length, drop, map, Option, Some, None, refl, sym, ap, ◌∙◌, subst, if◌then◌else◌, IfOk, IfSome, OnOk, Result, Ok, Err}
 use Rattle.std.specs.Prelude.{fold, slice_index_or, unwrap_or}
 use Rattle.inc_query.specs.declared.query.Query.{Query}
 use Rattle.inc_engine.specs.Builds.{Setup}
@@ -14,7 +14,7 @@ use Rattle.rs_plans.specs.Steps.{whole}
 use Rattle.rs_units.specs.Units.{units_of}
 use Rattle.plan_laws.specs.Assembled.{AreObjects, IsAssembled, checks_of, object_query, products_of, roots_by, told_by, unused_lines}
 use Rattle.rs_build.specs.Made.{AreObjectsOf, MadeOf}
-use Rattle.rs_build.proofs.Tellings.{errors_of, with_error, without_error}
+use Rattle.rs_queries.proofs.Tellings.{errors_of, with_error, without_error}
 
 -- where a line is an error's
 pub refused_is : (v : Query → List ℕ) (krate : Crate) (t : Told) (units : ℕ) (c : Compiled) → t ≡ told (told_by v (tree_index krate) krate.items) → t.errors ≡ true
@@ -42,9 +42,10 @@ pub made_is : (v : Query → List ℕ) (krate : Crate) (t : Told) (units : ℕ) 
 made_is v krate t units values c is e many have made =
     let own = told_by v (tree_index krate) krate.items in
     let has = errors_of own t false is e in
+    let unused = unused_lines (unwrap_or (places_in (v (whole 7))) []) krate.items in
     let dead = ap (λ vs. fold note t (unused_lines (unwrap_or (places_in (slice_index_or vs 0 [])) []) krate.items)) have in
     record {
-      says = made.says ∙ ap (λ (s : Told). printed_all s.lines) dead ∙ ap printed_all (without_error own (unused_lines (unwrap_or (places_in (v (whole 7))) []) krate.items) t is e);
+      says = made.says ∙ ap (λ (s : Told). printed_all s.lines) dead ∙ ap printed_all (without_error own unused t (fold note t unused) is e refl);
       units = made.units_are ∙ many;
       wrong = λ h. absurd (let bad : true ≡ false = sym h ∙ sym has in cc);
       right = λ h. (made.objects, objects_are v (units_of (tree_index krate)) made.objects (subst (λ vs. AreObjectsOf (drop 1 vs) made.objects) have made.are), made.built);

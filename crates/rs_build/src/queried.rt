@@ -1,6 +1,6 @@
 //! A build of a text by its queries.
 
-ghost use Rattle.std.specs.Prelude.{◌≡◌, ◌∷◌, ℕ, List, [], Ok, IfOk, OnOk, IsPermutation};
+ghost use Rattle.std.specs.Prelude.{◌≡◌, ◌≤◌, ◌∷◌, ℕ, List, [], length, Ok, IfOk, OnOk, IsPermutation};
 ghost use Rattle.std.specs.List.{count_by};
 ghost use Rattle.inc_query.specs.Ticks.{rise};
 ghost use Rattle.inc_query.specs.declared.query.Query.{Query};
@@ -14,7 +14,6 @@ ghost use Rattle.rs_queries.specs.Reading.{IsReading};
 ghost use Rattle.rs_plans.specs.Steps.{whole};
 ghost use Rattle.rs_provider.specs.Kept.{is_kept};
 ghost use Rattle.plan_laws.specs.Assembled.{IsAssembled, roots_by, roots_read};
-ghost use Rattle.plan_laws.specs.Roots.{IsTextFitting};
 ghost use Rattle.rs_build.specs.Over.{HasTicked, IsAsBefore, IsOver, IsReached, IsReadAssembled, WasAsked, begun, kept_values, reached_graph, setup_of, value_of};
 
 use crate::asked::index_query;
@@ -25,6 +24,7 @@ use inc_engine::{Engine, Work};
 use inc_graph::{Cache, Graph};
 use inc_roots::{ask_all, one_graph};
 use plan_laws::builds_by_queries_are_clean;
+use range_laws::texts_fit;
 use rs_grammar::trees_are_tidy;
 use rs_names::index;
 use rs_provider::Rust;
@@ -49,7 +49,7 @@ pub struct Queried {
 /// Compiles a text by its queries, over the graph and the cache of an earlier build, which are empty where there is none: its roots are
 /// asked, what they say is put together, and the engine is finished (docs/ARCHITECTURE.md, "How a query runs").
 ///
-/// What is compiled is what the clean build says of the text, and the graph and the cache are those of the text and of no other, whatever
+/// What is compiled is what the clean build says of the text, where it has at most 1,048,576 bytes, and the graph and the cache are those of the text and of no other, whatever
 /// was taken over from the earlier build. The meter rises by the objects that were made anew: where there is no
 /// earlier build by all, as the clean build's does. `Memory` where there is none for any of this.
 pub fn build(
@@ -63,7 +63,7 @@ pub fn build(
     requires reading { IsReading provider.text reading.now }
     requires graph { IsGraph graph }
     requires cache { IsCache graph cache }
-    ensures compiled { IfOk result (λ q. (s : List ℕ) → IsOver (begun provider.text provider.compiler graph cache) s → IsTextFitting provider.text provider.compiler.level → IsCompiled provider.text provider.compiler.level q.compiled) }
+    ensures compiled { IfOk result (λ q. (s : List ℕ) → IsOver (begun provider.text provider.compiler graph cache) s → length provider.text ≤ 1048576 → IsCompiled provider.text provider.compiler.level q.compiled) }
     ensures graph { IfOk result (λ q. (s : List ℕ) → IsOver (begun provider.text provider.compiler graph cache) s → q.graph ≡ reached_graph provider.compiler provider.text) }
     ensures cache { IfOk result (λ q. (s : List ℕ) → IsOver (begun provider.text provider.compiler graph cache) s → q.cache ≡ kept_values provider.compiler provider.text) }
     ensures ticked { IfOk result (λ q. (s : List ℕ) → IsOver (begun provider.text provider.compiler graph cache) s → meter.new ≡ rise meter.old (count_by (stale (setup_of (begun provider.text provider.compiler graph cache)) s) (queries_of q.graph))) }
@@ -73,6 +73,7 @@ pub fn build(
     ensures kept { IfOk result (λ q. HasKept is_kept q.graph q.cache) }
 {
     builds_by_queries_are_clean();
+    texts_fit();
     fresh_builds_make_all();
     let compiler = provider.compiler;
     let mut engine = Engine::with_previous(alloc, provider, graph, cache);

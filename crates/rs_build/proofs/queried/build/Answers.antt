@@ -1,4 +1,4 @@
-use Rattle.std.proofs.Common.{◌≡◌, List, [], ℕ, drop, length, sym, ap, ◌∙◌, subst}
+use Rattle.std.proofs.Common.{◌≡◌, ◌≤◌, List, [], ℕ, drop, length, sym, ap, ◌∙◌, subst}
 use Rattle.std.specs.Prelude.{IsPermutation}
 use Rattle.std.specs.List.{count_by}
 use Rattle.inc_query.specs.Ticks.{rise}
@@ -12,7 +12,6 @@ use Rattle.rs_queries.specs.Built.{IsCompiled, emitted}
 use Rattle.rs_plans.specs.Plans.{plan_of}
 use Rattle.rs_provider.specs.Kept.{is_kept}
 use Rattle.plan_laws.specs.Assembled.{roots_read}
-use Rattle.plan_laws.specs.Roots.{IsTextFitting}
 use Rattle.rs_build.specs.Over.{IsOver, IsReached, IsReadAssembled, begun, kept_values, reached_graph, roots_of, setting_of, setup_of, value_of}
 use Rattle.rs_build.proofs.Reaches.{compiled_is, counted}
 use Rattle.rs_build.proofs.Anew.{all_counted}
@@ -24,10 +23,10 @@ returns-in-Ok-clause-compiled c =
     let p = c.args.provider in
     let b = begun p.text p.compiler c.args.graph c.args.cache in
     let is = c.with_previous-engine.ensures in
-    ok_weaker (λ q. q.compiled ≡ c.in-Ok.compiled) (λ q. (s : List ℕ) → IsOver b s → IsTextFitting p.text p.compiler.level → IsCompiled p.text p.compiler.level q.compiled) c.finished.result
-    (λ q same s over fits.
+    ok_weaker (λ q. q.compiled ≡ c.in-Ok.compiled) (λ q. (s : List ℕ) → IsOver b s → length p.text ≤ 1048576 → IsCompiled p.text p.compiler.level q.compiled) c.finished.result
+    (λ q same s over short.
     subst (IsCompiled p.text p.compiler.level) (sym same)
-    (compiled_is c.builds_by_queries_are_clean.ensures.whole (setting_of p.compiler) p.text c.in-Ok.compiled fits
+    (compiled_is c.builds_by_queries_are_clean.ensures.whole (setting_of p.compiler) p.text c.in-Ok.compiled (c.texts_fit.ensures p.text p.compiler.level short)
     (subst (λ f. IsReadAssembled (value_of f) f.input p.compiler.level c.in-Ok.compiled) is (c.in-Ok.ensures.compiled s (subst (λ f. IsOver f s) (sym is) over)))))
     c.finished.ensures.compiled
 

@@ -5,7 +5,7 @@ use Rattle.rs_lines.specs.Lines.{line_of, note}
 use Rattle.rs_plans.specs.Steps.{query}
 use Rattle.rs_queries.specs.Known.{place_of}
 use Rattle.plan_laws.specs.Assembled.{diags_in, told_of}
-use Rattle.rs_build.proofs.Tellings.{tells_more}
+use Rattle.rs_queries.proofs.Tellings.{tells_more}
 use Rattle.rs_build.proofs.told.tell_items.Goals as goal
 
 pub loop-i-preserved : goal.loop-i-preserved

@@ -2,7 +2,7 @@ use Rattle.std.proofs.Common.{ap, ◌∙◌, fold, map, arith}
 use Rattle.rs_lookup.specs.Places.{place_name}
 use Rattle.rs_lines.specs.Lines.{note}
 use Rattle.plan_laws.specs.Assembled.{unused_line}
-use Rattle.rs_build.proofs.Tellings.{tells_more}
+use Rattle.rs_queries.proofs.Tellings.{tells_more}
 use Rattle.rs_build.proofs.told.tell_unused.Goals as goal
 
 pub loop-placed-preserved : goal.loop-placed-preserved

@@ -38,11 +38,11 @@ pub fn begin_beside(alloc: Global, ground: &mut Ground<Saved>) -> Result<(), Mem
     }
 }
 
-/// Its steps, before own acts 0, 2, 2 and 8, and five that are skipped: the lock file of a name that was not drawn, the same once
+/// Its steps, before own acts 0, 2, 2 and 14, and five that are skipped: the lock file of a name that was not drawn, the same once
 /// more, a step of the own session, one of a session that isn't there, and one that comes after the last act.
 pub fn steps_beside(alloc: Global) -> Result<List<Foreign>, Memory> {
     let mut steps = List::new(alloc);
-    put(&mut steps, 8, 0, Op::Close { handle: 0 })?;
+    put(&mut steps, 14, 0, Op::Close { handle: 0 })?;
     put(&mut steps, 0, 0, Op::Draw)?;
     put(&mut steps, 1, 0, lock(alloc, b"s-8-0.lock")?)?;
     put(&mut steps, 2, 0, lock(alloc, b"s-7-0.lock")?)?;
@@ -50,7 +50,7 @@ pub fn steps_beside(alloc: Global) -> Result<List<Foreign>, Memory> {
     put(&mut steps, 3, 0, lock(alloc, b"s-7-0.lock")?)?;
     put(&mut steps, 4, 1, Op::Close { handle: 0 })?;
     put(&mut steps, 5, 2, Op::Draw)?;
-    put(&mut steps, 9, 0, Op::Draw)?;
+    put(&mut steps, 15, 0, Op::Draw)?;
     Ok(steps)
 }
 

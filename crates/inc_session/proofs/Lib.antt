@@ -10,3 +10,4 @@ mod Parts
 mod Asks
 mod Sorted
 mod Compiled
+mod Nothing

@@ -1,7 +1,7 @@
 -- The pieces of a file are of their size, and are its bytes.
 use Rattle.std.proofs.Common.{◌≡◌, ℕ, zero, suc, ◌<◌, ◌≤◌, List, [], ◌∷◌, ◌++◌, length, map, take, drop, min, refl, ap, sym, ◌∙◌, arith, append_assoc, append-nil, length-take, length-drop}
 use Rattle.inc_base.specs.declared.job.Job.{Job}
-use Rattle.std.proofs.Common.{inl, inr, Some, Bool, true, false, ◌==◌, ◌&&◌}
+use Rattle.std.proofs.Common.{inl, inr, Bool, true, false, ◌==◌, ◌&&◌}
 use Rattle.std.proofs.lemmas.Bool.{cases_lt}
 use Rattle.std.proofs.Common.{get_or, ◌+◌}
 use Rattle.std.proofs.lemmas.List.{take-append-drop, take_all, drop_all, take_more}
@@ -10,7 +10,7 @@ use Rattle.inc_fs.specs.declared.op.Op.{Op}
 use Rattle.inc_fs.specs.declared.op.Op.TheVariants.{Append}
 use Rattle.inc_names.specs.declared.session.SessionName.{SessionName}
 use Rattle.inc_names.specs.Entries.{working_text}
-use Rattle.inc_session.specs.Saving.{pieces, pieces_by, file_ops, saving_ops, publishing, all_ops, taken_of, is_write, are_writes}
+use Rattle.inc_session.specs.Saving.{pieces, pieces_by, file_ops, saving_ops, publishing, all_ops, are_writes}
 
 -- these bytes, with the pieces after them
 abbrev pub joined : Text → List Text → Text

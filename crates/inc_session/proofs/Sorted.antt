@@ -1,6 +1,5 @@
 -- Files that were put one by one stand in name order.
-use Rattle.std.proofs.Common.{◌≡◌, Bool, true, false, cond, List, [], ◌∷◌, ◌++◌, Option, Some, None, refl, ap, sym, ◌∙◌, subst, append-nil, append_assoc}
-use Rattle.std.specs.List.{fold}
+use Rattle.std.proofs.Common.{◌≡◌, ℕ, ◌+◌, Bool, true, false, cond, List, [], ◌∷◌, ◌++◌, Some, None, refl, ap, sym, ◌∙◌, subst, append-nil, append_assoc}
 use Rattle.std.specs.Map.{lookup}
 use Rattle.std.specs.BTreeMap.{insert_entry, is_at}
 use Rattle.std.specs.Ordering.{is_eq, match_ordering, ordering_reverse}
@@ -8,7 +7,13 @@ use Rattle.std.specs.declared.cmp.Ordering.{Ordering}
 use Rattle.std.specs.declared.cmp.Ordering.TheVariants.{Less, Equal, Greater}
 use Rattle.std.specs.Cmp.Lexicographic.{nat_list_cmp_total}
 use Rattle.inc_fs.specs.Paths.{Text, text_cmp}
-use Rattle.inc_session.specs.Compiling.{AreInOrder, AreNew, files_of, put_all, put_object, object_file}
+use Rattle.inc_wire.specs.declared.header.Header.{Header}
+use Rattle.inc_graph.specs.declared.node.Node.{Node}
+use Rattle.inc_products.specs.declared.part.Part.{Part}
+use Rattle.inc_products.specs.declared.part.Part.TheVariants as part
+use Rattle.inc_products.specs.Named.{with_value}
+use Rattle.inc_products.specs.Saved.{Value, by_names, bytes_of, cache_name, files_of, graph_name, is_object_kind, object_name, products_name, with_object, with_objects}
+use Rattle.inc_session.specs.Compiling.{AreInOrder, AreNew, put_all}
 
 abbrev Set : Type 0
 Set = List (Text × Text)
@@ -49,9 +54,25 @@ module _ (k v : Text) where
       go Equal is later = rises
       go Greater is later = (before_put e.0 es (turned k e.0 Greater is) rises.0, later)
 
-rises_all : (files objects : Set) → Rises files → Rises (fold put_object files objects)
-rises_all files [] rises = rises
-rises_all files (object ∷ objects) rises = rises_all (put_object files object) objects (rises_put (object_file object.0) object.1 files rises)
+-- with an object's file where there is one
+rises_object : (f : ℕ → Text) (i : ℕ) (n : Node) (files : Set) → Rises files → Rises (with_object f i n files)
+rises_object f i n files rises = by (is_object_kind n.query.kind)
+  where
+    by : (b : Bool) → Rises (cond b (with_value files (object_name n.query.module) (f i)) files)
+    by true = rises_put (object_name n.query.module) (f i) files rises
+    by false = rises
+
+rises_objects : (f : ℕ → Text) (i : ℕ) (nodes : List Node) (files : Set) → Rises files → Rises (with_objects f i nodes files)
+rises_objects f i [] files rises = rises
+rises_objects f i (n ∷ nodes) files rises = rises_objects f (i + 1) nodes (with_object f i n files) (rises_object f i n files rises)
+
+-- the files of each part, by their names
+rises_named : (f : Part → Text) (nodes : List Node) → Rises (by_names f nodes)
+rises_named f nodes =
+    rises_objects (λ i. f (part.Object i)) 0 nodes (with_value (with_value (with_value [] graph_name (f part.Graph)) cache_name (f part.Cache)) products_name (f part.Products))
+    (rises_put products_name (f part.Products) (with_value (with_value [] graph_name (f part.Graph)) cache_name (f part.Cache))
+    (rises_put cache_name (f part.Cache) (with_value [] graph_name (f part.Graph))
+    (rises_put graph_name (f part.Graph) [] tt)))
 
 -- a name stands after those of some files
 abbrev IsAfter : Text → Set → Type 0
@@ -94,8 +115,8 @@ all_first : (files : Set) → AllAfter [] files
 all_first [] = tt
 all_first (file ∷ files) = (tt, all_first files)
 
--- the files of objects are in order
-pub files_in_order : (objects : Set) → AreInOrder (files_of objects)
-files_in_order objects =
-    let both = one_by_one [] (files_of objects) (all_first (files_of objects)) (rises_all [] objects tt) in
+-- the files of a graph and of the values kept of it are in order
+pub files_in_order : (h : Header) (nodes : List Node) (values : List Value) → AreInOrder (files_of h nodes values)
+files_in_order h nodes values =
+    let both = one_by_one [] (files_of h nodes values) (all_first (files_of h nodes values)) (rises_named (bytes_of h nodes values) nodes) in
     record { new = both.0; same = both.1 }

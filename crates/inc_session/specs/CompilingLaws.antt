@@ -1,6 +1,6 @@
 -- What a job's text compiles to is what the clean build of its text has: laws of `Compiling`.
-use Rattle.std.specs.Prelude.{◌≡◌, ℕ, Bool, true, false, cond, List, length, map, Option, Some, None, Result, Ok, Err, option_and_then, refl}
-use Rattle.std.proofs.Common.{ap, ◌∙◌, sym, subst}
+use Rattle.std.specs.Prelude.{◌≡◌, ℕ, Bool, true, false, cond, List, length, Option, Some, None, Result, Ok, Err, option_and_then, refl}
+use Rattle.std.proofs.Common.{ap, ◌∙◌, sym}
 use Rattle.std.proofs.lemmas.List.{length-map}
 use Rattle.std.specs.Option.{option_map}
 use Rattle.inc_base.specs.declared.job.Job.{Job}
@@ -10,14 +10,12 @@ use Rattle.rs_text.specs.Text.{text_of}
 use Rattle.rs_text.specs.declared.fault.TextFault.{TextFault}
 use Rattle.rs_units.specs.Units.{units_of}
 use Rattle.rs_object.specs.declared.object.Object.{Object}
-use Rattle.rs_queries.specs.Built.{IsClean, IsCompiled, IsTreeCompiled, clean_of, built_of, objects_by, output_of, stored, tree_index}
+use Rattle.rs_queries.specs.Built.{IsClean, IsCompiled, IsTreeCompiled, objects_by, output_of, stored, tree_index}
 use Rattle.rs_queries.specs.Known.{all_answered, constants_of, sigs_of}
 use Rattle.rs_queries.specs.declared.compiled.Built.{Built}
-use Rattle.rs_queries.specs.declared.compiled.CleanBuild.{CleanBuild}
 use Rattle.rs_queries.specs.declared.compiled.Compiled.{Compiled as Whole}
 use Rattle.rs_queries.proofs.Exact.{only_build}
-use Rattle.inc_session.specs.Compiling.{answer_of, compiled_by, compiled_of, made_in, made_with, whole_of}
-use Rattle.inc_session.specs.declared.compile.Compiled.{Compiled}
+use Rattle.inc_session.specs.Compiling.{answer_of, compiled_by, compiled_of, job_files, made_in, made_with, whole_of}
 use Rattle.inc_session.specs.declared.compile.Made.{Made}
 
 -- the answer on a job's text is one, and no other is
@@ -25,9 +23,9 @@ pub whole_is : (job : Job) → IsCompiled job.text job.compiler.level (whole_of 
 unfolding whole_of
 whole_is job = (answer_of job).1
 
-pub whole_only : (job : Job) (whole : Whole) → IsCompiled job.text job.compiler.level whole → compiled_by whole ≡ compiled_of job
+pub whole_only : (job : Job) (whole : Whole) → IsCompiled job.text job.compiler.level whole → compiled_by (job_files job) whole ≡ compiled_of job
 unfolding compiled_of
-whole_only job whole is = ap compiled_by (only_build job.text job.compiler.level whole (whole_of job) is (whole_is job))
+whole_only job whole is = ap (compiled_by (job_files job)) (only_build job.text job.compiler.level whole (whole_of job) is (whole_is job))
 
 -- ---- Each unit has its object, where something is built.
 
@@ -59,32 +57,32 @@ record IsMadeOf (built : Option Built) (made : Made) : Type 0 where
   image : whole.image ≡ Some made.image
   units : made.units ≡ length whole.objects
 
-made_from : (built : Option Built) (made : Made) → made_in built ≡ Some made → IsMadeOf built made
-made_from None made is = absurd (cc)
-made_from (Some b) made is = by b.image refl is
+made_from : (files : List (Text × Text)) (built : Option Built) (made : Made) → made_in files built ≡ Some made → IsMadeOf built made
+made_from files None made is = absurd (cc)
+made_from files (Some b) made is = by b.image refl is
   where
-    by : (image : Option Text) → b.image ≡ image → option_map (made_with b.objects) b.image ≡ Some made → IsMadeOf (Some b) made
-    by None same is = absurd (let none : option_map (made_with b.objects) b.image ≡ None = ap (option_map (made_with b.objects)) same in cc)
+    by : (image : Option Text) → b.image ≡ image → option_map (made_with files b.objects) b.image ≡ Some made → IsMadeOf (Some b) made
+    by None same is = absurd (let none : option_map (made_with files b.objects) b.image ≡ None = ap (option_map (made_with files b.objects)) same in cc)
     by (Some image) same is =
-        let some : Some (made_with b.objects image) ≡ Some made = sym (ap (option_map (made_with b.objects)) same) ∙ is in
-        let one : made_with b.objects image ≡ made = cc in
+        let some : Some (made_with files b.objects image) ≡ Some made = sym (ap (option_map (made_with files b.objects)) same) ∙ is in
+        let one : made_with files b.objects image ≡ made = cc in
         record { whole = b; is = refl; image = same ∙ ap (λ (made : Made). Some made.image) one; units = ap (λ (made : Made). made.units) (sym one) }
 
 -- where nothing is made there is no image
-no_image : (built : Option Built) → made_in built ≡ None → option_and_then (λ (b : Built). b.image) built ≡ None
-no_image None is = refl
-no_image (Some b) is = by b.image refl is
+no_image : (files : List (Text × Text)) (built : Option Built) → made_in files built ≡ None → option_and_then (λ (b : Built). b.image) built ≡ None
+no_image files None is = refl
+no_image files (Some b) is = by b.image refl is
   where
-    by : (image : Option Text) → b.image ≡ image → option_map (made_with b.objects) b.image ≡ None → b.image ≡ None
+    by : (image : Option Text) → b.image ≡ image → option_map (made_with files b.objects) b.image ≡ None → b.image ≡ None
     by None same is = same
-    by (Some image) same is = absurd (let some : option_map (made_with b.objects) b.image ≡ Some (made_with b.objects image) = ap (option_map (made_with b.objects)) same in cc)
+    by (Some image) same is = absurd (let some : option_map (made_with files b.objects) b.image ≡ Some (made_with files b.objects image) = ap (option_map (made_with files b.objects)) same in cc)
 
 pub built_clean : (job : Job) (made : Made) → (compiled_of job).made ≡ Some made
     → IsClean job.text job.compiler.level (record { diags = (compiled_of job).diags; image = Some made.image; units = made.units })
 unfolding compiled_of
 built_clean job made is =
     let whole = whole_of job in
-    let from = made_from whole.built made is in
+    let from = made_from (job_files job) whole.built made is in
     let image : Some made.image ≡ option_and_then (λ (b : Built). b.image) whole.built = sym from.image ∙ sym (ap (option_and_then (λ (b : Built). b.image)) from.is) in
     let units : made.units ≡ whole.units = from.units ∙ each_unit job.text job.compiler.level whole from.whole (whole_is job) from.is in
     (whole, whole_is job, λ j. record { diags = whole.diags; image = image j; units = units j })
@@ -94,4 +92,4 @@ pub errors_clean : (job : Job) → (compiled_of job).made ≡ None
 unfolding compiled_of
 errors_clean job is =
     let whole = whole_of job in
-    (whole.units, (whole, whole_is job, λ j. record { diags = whole.diags; image = sym (no_image whole.built is) j; units = whole.units }))
+    (whole.units, (whole, whole_is job, λ j. record { diags = whole.diags; image = sym (no_image (job_files job) whole.built is) j; units = whole.units }))

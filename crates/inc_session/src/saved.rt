@@ -2,7 +2,7 @@ ghost use Rattle.std.specs.Prelude.{◌≡◌, IfOk};
 ghost use Rattle.inc_session.specs.Compiling.{files_in};
 ghost use Rattle.inc_session.specs.Saves.{saved_clear, saved_files};
 
-use crate::compile::{Compiled, compile};
+use crate::compile::{Compiled, compile, share};
 use inc_base::{Bytes, Copied, Job, Label, List, Memory, Meter};
 use inc_proto::Content;
 use rs_queries::read;
@@ -23,7 +23,7 @@ impl Content for Saved {
         ensures { IfOk result (λ found. found ≡ saved_files job.now) }
     {
         let alloc = job.text.allocator();
-        let reading = read(alloc, job.text.as_slice())?;
+        let reading = share(alloc, read(alloc, job.text.as_slice())?)?;
         let mut meter = Meter::new();
         match compile(alloc, job, &reading, &mut meter) {
             Ok(compiled) => files_in(alloc, &compiled),

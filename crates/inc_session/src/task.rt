@@ -7,7 +7,7 @@ ghost use Rattle.rs_queries.specs.Reading.{IsReading};
 ghost use Rattle.inc_session.specs.Compiling.{compiled_of, units_of};
 ghost use Rattle.inc_session.specs.Saving.{publishing};
 
-use crate::compile::{Compiled, compile};
+use crate::compile::{Compiled, compile, share};
 use inc_base::{Bytes, Copied, Job, Label, Memory, Meter};
 use inc_fs::Op;
 use inc_names::{Entry, SessionName, crate_dir, entry_text};
@@ -15,6 +15,7 @@ use inc_wire::job_hash;
 use rs_queries::Reading;
 use std::alloc::Global;
 use std::marker::Model;
+use std::rc::Rc;
 
 /// A job with what a session needs of it: the name of its crate's directory, its hash, and the reading of its text.
 #[derive(Drop)]
@@ -22,7 +23,7 @@ pub struct Task {
     alloc: Global,
     krate: Label,
     hash: u128,
-    reading: Reading,
+    reading: Rc<Reading>,
     job: Job,
 }
 
@@ -36,7 +37,7 @@ impl Model for Task {
 
     ghost view = { λ t. t.job };
 
-    ghost invariant = { λ t. (t.krate ≡ t.job.krate) × (t.hash ≡ job_hash_of t.job) × IsReading t.job.text t.reading };
+    ghost invariant = { λ t. (t.krate ≡ t.job.krate) × (t.hash ≡ job_hash_of t.job) × IsReading t.job.text t.reading.value };
 }
 
 /// The name of a job's crate's directory, and the job's hash.
@@ -55,13 +56,20 @@ impl Task {
         ensures { IfOk result (λ task. task ≡ job) }
     {
         match named(alloc, &job) {
-            Ok((krate, hash)) => Ok(Task {
-                alloc,
-                krate,
-                hash,
-                reading,
-                job,
-            }),
+            Ok((krate, hash)) => match share(alloc, reading) {
+                Ok(reading) => Ok(Task {
+                    alloc,
+                    krate,
+                    hash,
+                    reading,
+                    job,
+                }),
+                Err(refused) => {
+                    drop(krate);
+                    drop(job);
+                    Err(refused)
+                }
+            },
             Err(refused) => {
                 drop(reading);
                 drop(job);
